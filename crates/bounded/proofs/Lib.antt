@@ -1,0 +1,4 @@
+pub mod Shift
+pub mod Most
+pub mod Mask
+pub mod Members

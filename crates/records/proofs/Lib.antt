@@ -1,0 +1,5 @@
+pub mod Rows
+pub mod Tags
+pub mod Orders
+pub mod Checked
+pub mod Known

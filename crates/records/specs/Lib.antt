@@ -1,0 +1,5 @@
+pub mod Layout
+pub mod Order
+pub mod Stages
+pub mod Reads
+pub mod Messages

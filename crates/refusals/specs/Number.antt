@@ -1,0 +1,14 @@
+-- The number of each refusal.
+use Prim.Native.Nat.{ℕ}
+use Rattle.refusals.specs.declared.refusal.Refusal.{Refusal}
+use Rattle.refusals.specs.declared.refusal.Refusal.the-variants.{Length, Order, Field, Unlawful, Twice, Entries, Descriptors, Undefined}
+
+abbrev pub number : Refusal → ℕ
+number Length = 3
+number Order = 4
+number Field = 5
+number Unlawful = 6
+number Twice = 7
+number Entries = 8
+number Descriptors = 9
+number Undefined = 10

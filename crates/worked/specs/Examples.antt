@@ -1,0 +1,5 @@
+-- The worked examples of every part, under its name.
+use Rattle.worked.specs.Judged.{Standard-judge}
+
+abbrev pub Worked-examples : Type 0
+Worked-examples = record { standard-judge : Standard-judge }
