@@ -1,0 +1,9 @@
+//! What a line says.
+
+/// The answer to a set message, where refusal 0 is success; the tag of a bad record; or a short rest.
+#[derive(Clone, Copy)]
+pub enum Line {
+    Set { sequence: u8, refusal: u8 },
+    Bad(u8),
+    Short,
+}

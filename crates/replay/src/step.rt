@@ -1,0 +1,41 @@
+//! Performs one piece of the input.
+
+ghost use mathlib.Core.Path.{_≡_};
+ghost use lib.ListN.{length};
+ghost use Rattle.cutting.specs.Cut.{Size};
+ghost use Rattle.cutting.specs.Pieces.{portion};
+ghost use Rattle.replay.specs.Bench.{Step, refusal};
+use cutting::Piece;
+use judges::StandardJudge;
+use judges::StandardJudges;
+use lines::Line;
+use refusals::Refusal;
+use table::Table;
+
+// The number that a line has for an answer of the table: 0 for success.
+fn number_of(answer: Result<u8, Refusal>) -> u8
+    ensures { λ r. ⌜ r ≡ refusal answer ⌝ }
+{
+    match answer {
+        Ok(_) => 0,
+        Err(refusal) => refusal.number(),
+    }
+}
+
+// Performs a piece on the table, and gives its line.
+pub(crate) fn perform(table: &mut Table, piece: Piece<'_>) -> Line
+    requires { ⌜ Size (portion piece .kind) (length (portion piece .octets)) ⌝ }
+    ensures { λ r. ⌜ Step (now (table .entry)) (portion (piece .entry)) r (now (table .exit)) ⌝ }
+{
+    match piece {
+        Piece::Set(message) => {
+            let answer = table.set(&StandardJudge, message);
+            Line::Set {
+                sequence: message[1],
+                refusal: number_of(answer),
+            }
+        }
+        Piece::Bad(record) => Line::Bad(record[0]),
+        Piece::Short(_) => Line::Short,
+    }
+}
