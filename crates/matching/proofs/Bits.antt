@@ -15,7 +15,7 @@ use Rattle.bounded.specs.Bit.{bit}
 use Rattle.bounded.proofs.Mask.{bit-zero}
 
 -- a digit is 0 or 1
-digit : (x t : ℕ) → (x / 2 ^ t % 2 ≡ 0) ⊎ (x / 2 ^ t % 2 ≡ 1)
+pub digit : (x t : ℕ) → (x / 2 ^ t % 2 ≡ 0) ⊎ (x / 2 ^ t % 2 ≡ 1)
 digit x t = let l : x / 2 ^ t % 2 < 2 = mod-lt (x / 2 ^ t) (omega arith) in elim (cases-eq (x / 2 ^ t % 2) 0) [ inl e ↦ inl e | inr e ↦ inr (omega arith) ]
 
 -- the digits of what is left of x without y

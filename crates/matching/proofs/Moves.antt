@@ -45,7 +45,7 @@ module _ (board holder seen now next : List ℕ) (r s : ℕ) (ready : Seatable b
     (fits : can board r s ≡ true) (off : visited now s ≡ false) (on : visited next s ≡ true) (rest : (t : ℕ) → (t ≡ s → ⊥) → visited next t ≡ visited now t)
     (long : length next ≡ 2) where
   within : s < length holder
-  within = ready .shaped .within r s fits
+  within = ready .shaped .within r s (ready .row) fits
 
   grown : Within (length holder) (visited seen) (visited next)
   grown t l v =

@@ -30,7 +30,7 @@ pub record Shaped (board holder seen : List ℕ) : Type 0 where
   pub rows : tall board ≤ 17
   pub sets : length holder ≤ 16
   pub mask : length seen ≡ 2
-  pub within : (r s : ℕ) → can board r s ≡ true → s < length holder
+  pub within : (r s : ℕ) → r < tall board → can board r s ≡ true → s < length holder
 
 pub record Seatable (board holder seen : List ℕ) (r : ℕ) : Type 0 where
   pub shaped : Shaped board holder seen

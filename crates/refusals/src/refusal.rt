@@ -6,6 +6,8 @@ ghost use Rattle.refusals.specs.Number.{number};
 /// Why a call is refused.
 #[derive(Clone, Copy, PartialEq, Eq, Debug)]
 pub enum Refusal {
+    /// The scratch memory that is lent has fewer than 512 octets.
+    Scratch,
     /// The message has no octet, no whole records, or too many.
     Length,
     /// The records do not stand in the order of the message.
@@ -22,6 +24,8 @@ pub enum Refusal {
     Descriptors,
     /// A set of the table would name an undefined entry.
     Undefined,
+    /// No standing descriptor carries any of the modes.
+    ModeUnavailable,
 }
 
 impl Refusal {
@@ -30,6 +34,7 @@ impl Refusal {
         ensures { λ r. ⌜ r ≡ number self ⌝ }
     {
         match self {
+            Refusal::Scratch => 1,
             Refusal::Length => 3,
             Refusal::Order => 4,
             Refusal::Field => 5,
@@ -38,6 +43,7 @@ impl Refusal {
             Refusal::Entries => 8,
             Refusal::Descriptors => 9,
             Refusal::Undefined => 10,
+            Refusal::ModeUnavailable => 18,
         }
     }
 }

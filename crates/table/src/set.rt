@@ -2,11 +2,14 @@
 
 ghost use mathlib.Core.Path.{_≡_};
 ghost use mathlib.Core.List.{[]};
+ghost use Prim.Native.Nat.{_≤_};
+ghost use lib.ListN.{length};
 ghost use Rattle.std.specs.Results.{Cases};
 ghost use Rattle.refusals.specs.Checks.{First};
 ghost use Rattle.records.specs.Reads.{says};
 ghost use Rattle.table.specs.Keyed.{at};
 ghost use Rattle.table.specs.Message.{entriesIn, allLawful};
+ghost use Rattle.table.specs.Rows.{entryRows, descriptorRows};
 ghost use Rattle.table.specs.Sets.{entriesOf, descriptorsOf, standing, setChecks, Done, Sets};
 use super::defined::are_defined;
 use super::held::AlternativeSet;
@@ -76,6 +79,22 @@ impl Table {
             return None;
         };
         Some(entry.capability)
+    }
+
+    /// The entries, by rising number.
+    pub fn entries(&self) -> &[Entry]
+        ensures list { λ r. ⌜ entryRows (now r) ≡ entriesOf (now (self .entry)) ⌝ }
+        ensures most { λ r. ⌜ length (now r) ≤ 64 ⌝ }
+    {
+        self.entries.as_slice()
+    }
+
+    /// The descriptors, by rising number.
+    pub fn descriptors(&self) -> &[Descriptor]
+        ensures list { λ r. ⌜ descriptorRows (now r) ≡ descriptorsOf (now (self .entry)) ⌝ }
+        ensures most { λ r. ⌜ length (now r) ≤ 16 ⌝ }
+    {
+        self.descriptors.as_slice()
     }
 
     /// The table after a set message, or the first refusal in order.

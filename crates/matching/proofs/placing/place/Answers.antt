@@ -23,7 +23,7 @@ loop-x-again c =
 pub seat-requires : need.seat-requires
 seat-requires c κs =
     seatable (c .args .board .now) (c .loop-r .holder) (c .put-mask .last .board) (c .loop-r .r) (c .put-mask .ensures .here) (c .loop-r-test .taken) (c .loop-r .inv)
-    (record { rows = c .pre .rows; sets = omega arith; mask = omega arith; within = λ r s e. let l = c .pre .within r s e in omega arith })
+    (record { rows = c .pre .rows; sets = omega arith; mask = omega arith; within = λ r s k e. let l = c .pre .within r s k e in omega arith })
 
 pub group-of-group-requires : need.group-of-group-requires
 group-of-group-requires c κs = (

@@ -1,0 +1,1 @@
+use Rattle.search.proofs.fill.write_rows.Needs as need
