@@ -83,7 +83,7 @@ at-some (x ∷ xs) (suc k) l = let h = at-some xs k (omega arith) in (h .0, (ome
 
 module _ (fit : List ℕ → Proposal → Bool) (sets : List (List ℕ)) (ps : List Proposal) where
   -- the row and the set that stand at the places
-  uses-at : (r s : ℕ) (p : Proposal) (S : List ℕ) → At p ps r → At S sets s → uses fit sets ps r s ≡ fit S p
+  pub uses-at : (r s : ℕ) (p : Proposal) (S : List ℕ) → At p ps r → At S sets s → uses fit sets ps r s ≡ fit S p
   uses-at r s p S a b = pass-at (λ (q : Proposal). passAt (λ T. fit T q) sets s) ps r p a ∙ pass-at (λ (T : List ℕ). fit T p) sets s S b
 
   pub carries-is : board.Carries (uses fit sets ps) (length ps) (length sets) → Carries fit sets ps

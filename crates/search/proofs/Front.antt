@@ -34,7 +34,7 @@ count-all zero = refl
 count-all (suc n) = omega (arith, count-all n)
 
 -- no more rows are carried than there are sets
-carries-few : (fit : List ℕ → Proposal → Bool) (sets : List (List ℕ)) (ps : List Proposal) → Carries fit sets ps → length ps ≤ length sets
+pub carries-few : (fit : List ℕ → Proposal → Bool) (sets : List (List ℕ)) (ps : List Proposal) → Carries fit sets ps → length ps ≤ length sets
 carries-few fit sets ps c =
     let few = count-inj (λ _. true) (λ _. true) (c .seat) (length ps) (length sets)
     (λ r l _. let p = at-some ps r l in (c .fits r (p .0) (p .1) .1 .0, refl))

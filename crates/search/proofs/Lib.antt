@@ -4,5 +4,8 @@ pub mod Covers
 pub mod Meets
 pub mod Bridge
 pub mod Cleared
+pub mod Pairs
 pub mod Outcomes
 pub mod Front
+pub mod Firsts
+pub mod Seated

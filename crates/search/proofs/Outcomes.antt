@@ -8,7 +8,6 @@ use native.Mathlib.Omega.{arith}
 use lib.Dec.{leb}
 use lib.ListN.{length, getD}
 use Rattle.std.specs.declared.option.Option.the-variants.{None}
-use Rattle.std.proofs.shelf.Lists.{length-push, getD-append-left, getD-push}
 use Rattle.std.proofs.shelf.Tests.{cases-eq, cases-lt, and-parts, leb-true}
 use Rattle.bounded.specs.Bit.{bit}
 use Rattle.judges.specs.declared.words.Capability.{Capability}
@@ -17,7 +16,7 @@ use Rattle.matching.specs.Board as board
 use Rattle.table.specs.Keyed.{Numbered, rising, numbers}
 use Rattle.table.specs.Sets.{Standing}
 use Rattle.search.specs.declared.found.NoteRow.{NoteRow}
-use Rattle.search.specs.Answers.{Stands, Carried-by, Smallest, None-carries, Answer, Noted, Notes}
+use Rattle.search.specs.Answers.{Stands, Carried-by, None-carries, Answer, Noted, Notes}
 use Rattle.search.specs.Carrying.{usable, grouped, usedBy}
 use Rattle.search.specs.Filling.{Covered, meeting, uses}
 use Rattle.search.specs.Lists.{At, In, passAt, howMany}
@@ -25,6 +24,7 @@ use Rattle.search.specs.Settling.{meetsAt, Blocked-by}
 use Rattle.search.proofs.Bridge.{at-some, carries-is, carries-same, reach-many, blocks-is, blocks-same, blocks-refute, reach-same}
 use Rattle.search.proofs.Covers.{at-one}
 use Rattle.search.proofs.Meets.{meeting-usable}
+use Rattle.search.proofs.Pairs.{Paired}
 use Rattle.search.proofs.Places.{pass-at}
 
 pass-ext : {X : Type 0} (P Q : X → Bool) (xs : List X) (k : ℕ) → ((x : X) → P x ≡ Q x) → passAt P xs k ≡ passAt Q xs k
@@ -54,7 +54,7 @@ later from (x ∷ xs) up (suc i) (suc j) d e a b l =
     later (x .number + 1) xs (two .1) i j d e (omega (arith, a .0), a .1) (omega (arith, b .0), b .1) (omega arith)
 
 -- a list has something or nothing
-some-or-none : {X : Type 0} (xs : List X) → (xs ≡ []) ⊎ (0 < length xs)
+pub some-or-none : {X : Type 0} (xs : List X) → (xs ≡ []) ⊎ (0 < length xs)
 some-or-none [] = inl refl
 some-or-none (x ∷ xs) = inr (omega arith)
 
@@ -64,26 +64,8 @@ module _ (covers : Capability → Proposal → Bool) (t : Standing) (ps : List P
   refuted d w n c = blocks-refute (usable covers (t .entries)) (d .value) ps (bit (w .group)) (n .blocks) c
 
   -- the first i descriptors have their rows
-  pub record Shown (i : ℕ) (ws : List NoteRow) : Type 0 where
-    pub long : length ws ≡ i
-    pub each : (k : ℕ) (d : Stands) (w : NoteRow) → k < i → At d (t .descriptors) k → At w ws k → Noted covers t ps d w
-
-  pub shown-none : (ws : List NoteRow) → ws ≡ [] → Shown 0 ws
-  shown-none ws e = record { long = ap length e; each = λ k d w l. absurd (omega arith) }
-
-  pub shown-more : (i : ℕ) (ws zs : List NoteRow) (d : Stands) (w : NoteRow) → At d (t .descriptors) i → Noted covers t ps d w → zs ≡ ws ++ w ∷ [] → Shown i ws → Shown (i + 1) zs
-  shown-more i ws zs d w a n e s = record {
-    long = ap length e ∙ length-push ws w ∙ ap (λ (x : ℕ). x + 1) (s .long);
-    each = λ k f v l b c. elim (cases-eq k i) [
-      | inl q ↦
-          let same-d : d ≡ f = at-one (t .descriptors) i d f a (subst (λ x. At f (t .descriptors) x) q b) in
-          let same-w : w ≡ v = sym (getD-push ws w v i (s .long)) ∙ ap (λ (u : List NoteRow). getD u i v) (sym e) ∙ ap (λ x. getD zs x v) (sym q) ∙ c .1 in
-          subst (λ x. Noted covers t ps x v) same-d (subst (Noted covers t ps d) same-w n)
-      | inr ne ↦
-          let l′ : k < length ws = omega (arith, s .long) in
-          s .each k f v (omega arith) b (l′, sym (getD-append-left ws (w ∷ []) v k l′) ∙ ap (λ (u : List NoteRow). getD u k v) (sym e) ∙ c .1)
-    ];
-  }
+  abbrev pub Shown : ℕ → List NoteRow → Type 0
+  Shown i ws = Paired (λ _ d w. Noted covers t ps d w) (t .descriptors) i ws
 
   pub shown-all : (i : ℕ) (ws : List NoteRow) → length (t .descriptors) ≡ i → Shown i ws → Notes covers t ps (t .descriptors) ws
   shown-all i ws e s = record { long = s .long ∙ sym e; each = λ k d w a b. s .each k d w (omega (arith, a .0)) a b }
@@ -108,25 +90,32 @@ module _ (covers : Capability → Proposal → Bool) (t : Standing) (ps : List P
     ]
   ]
 
-  -- the first descriptor that carries
-  pub first : rising 0 (numbers (t .descriptors)) ≡ true → (i : ℕ) (ws : List NoteRow) (d : Stands) → At d (t .descriptors) i → Shown i ws → Carried-by covers t ps d → Smallest covers t ps (d .number)
-  first up i ws d a s c = record {
-    descriptor = d;
-    stands = (i, a);
-    carries = c;
-    number = refl;
-    least = λ e b k. elim (cases-lt (b .0) i) [
-      | inl l ↦ let w = at-some ws (b .0) (omega (arith, s .long)) in absurd (refuted e (w .0) (s .each (b .0) e (w .0) l (b .1) (w .1)) k)
-      | inr l ↦ elim (cases-eq i (b .0)) [
-        | inl q ↦ omega (arith, ap (λ (y : Stands). y .number) (at-one (t .descriptors) i d e a (subst (λ x. At e (t .descriptors) x) (sym q) (b .1))))
-        | inr ne ↦ omega (arith, later 0 (t .descriptors) up i (b .0) d e a (b .1) (omega arith))
-      ]
-    ];
-  }
+  -- none of the first i descriptors carries
+  abbrev pub Past : ℕ → Type 0
+  Past i = (k : ℕ) (d : Stands) → k < i → At d (t .descriptors) k → Carried-by covers t ps d → ⊥
+
+  pub shown-past : (i : ℕ) (ws : List NoteRow) → Shown i ws → Past i
+  shown-past i ws s k d l a c = let w = at-some ws k (omega (arith, s .long)) in refuted d (w .0) (s .each k d (w .0) l a (w .1)) c
+
+  pub past-more : (i : ℕ) (d : Stands) → At d (t .descriptors) i → (Carried-by covers t ps d → ⊥) → Past i → Past (i + 1)
+  past-more i d a not past k e l b c = elim (cases-eq k i) [
+    | inl q ↦ not (subst (Carried-by covers t ps) (at-one (t .descriptors) i e d (subst (λ x. At e (t .descriptors) x) q b) a) c)
+    | inr ne ↦ past k e (omega arith) b c
+  ]
+
+  -- the first descriptor that carries has the smallest number
+  pub least : rising 0 (numbers (t .descriptors)) ≡ true → (i : ℕ) (d : Stands) → At d (t .descriptors) i → Past i → (e : Stands) → In e (t .descriptors) → Carried-by covers t ps e → d .number ≤ e .number
+  least up i d a past e b k = elim (cases-lt (b .0) i) [
+    | inl l ↦ absurd (past (b .0) e l (b .1) k)
+    | inr l ↦ elim (cases-eq i (b .0)) [
+      | inl q ↦ omega (arith, ap (λ (y : Stands). y .number) (at-one (t .descriptors) i d e a (subst (λ x. At e (t .descriptors) x) (sym q) (b .1))))
+      | inr ne ↦ omega (arith, later 0 (t .descriptors) up i (b .0) d e a (b .1) (omega arith))
+    ]
+  ]
 
   -- the masks of the rows are those of the proposals
   module _ (up : rising 0 (numbers (t .entries)) ≡ true) (masks : List ℕ) (cov : Covered covers (t .entries) ps masks) where
-    same : (sets : List (List ℕ)) (r s : ℕ) → r < length ps → meetsAt (t .entries) sets masks r s ≡ uses (usable covers (t .entries)) sets ps r s
+    pub same : (sets : List (List ℕ)) (r s : ℕ) → r < length ps → meetsAt (t .entries) sets masks r s ≡ uses (usable covers (t .entries)) sets ps r s
     same sets r s l =
         let p = at-some ps r l in
         pass-ext (λ S. meeting (t .entries) S (getD masks r 0)) (λ S. usable covers (t .entries) S (p .0)) sets s (λ S. meeting-usable covers (t .entries) S (p .0) (getD masks r 0) up (cov .each r (p .0) (p .1)))

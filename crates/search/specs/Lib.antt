@@ -6,3 +6,4 @@ pub mod Scratch
 pub mod Filling
 pub mod Settling
 pub mod Searching
+pub mod Seats

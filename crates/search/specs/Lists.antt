@@ -4,6 +4,8 @@ use mathlib.Core.List.{List, [], _∷_}
 use mathlib.Core.Bool.{Bool, false, cond, _||_}
 use Prim.Native.Nat.{ℕ, zero, suc, _+_, _<_}
 use lib.ListN.{length, getD}
+use Rattle.std.specs.declared.option.Option.{Option}
+use Rattle.std.specs.declared.option.Option.the-variants.{Some, None}
 
 -- x stands at place k
 abbrev pub At : {X : Type 0} → X → List X → ℕ → Type 0
@@ -23,6 +25,11 @@ module _ {X : Type 0} (P : X → Bool) where
   abbrev pub howMany : List X → ℕ
   howMany [] = 0
   howMany (x ∷ xs) = cond (P x) 1 0 + howMany xs
+
+  -- the first of them that passes
+  abbrev pub firstPass : List X → Option X
+  firstPass [] = None
+  firstPass (x ∷ xs) = cond (P x) (Some x) (firstPass xs)
 
   -- what stands at place k passes
   abbrev pub passAt : List X → ℕ → Bool

@@ -8,13 +8,17 @@ ghost use Rattle.std.specs.Results.{Cases};
 ghost use Rattle.refusals.specs.Checks.{First, Passed};
 ghost use Rattle.table.specs.Sets.{standing};
 ghost use Rattle.search.specs.Answers.{Answer, Outcome};
+ghost use Rattle.search.specs.Seats.{Seating-of};
 ghost use Rattle.search.specs.Scratch.{leftOver, scratchChecks};
 use crate::cover::cover;
 use crate::each::search_each;
 use crate::found::Found;
 use crate::guard::Guard;
 use crate::guard::ROOM;
+use crate::row::NumberedRow;
 use crate::row::Row;
+use crate::seat::Seating;
+use crate::seats::seat_each;
 use judges::Judge;
 use refusals::Refusal;
 use table::Table;
@@ -80,4 +84,41 @@ pub fn smallest<J: Judge, R: Row>(
         Found::Carried(descriptor) => Ok(Some(descriptor)),
         Found::Blocked(_) => Ok(None),
     }
+}
+
+// The seats of any number of rows: more than 17 no descriptor carries.
+fn seat_all<J: Judge, R: NumberedRow>(
+    judge: &J,
+    table: &Table,
+    rows: &[R],
+    work: &mut [u8],
+) -> Option<Seating>
+    requires { ⌜ 64 ≤ length (now work) ⌝ }
+    ensures { λ r. ⌜ Seating-of (R·NumberedRow .named) (R·Row .asks) (J·Judge .covers (now (judge .entry))) (standing (now (table .entry))) (now (rows .entry)) r ⌝ }
+{
+    if rows.is_empty() || rows.len() > MOST {
+        return None;
+    }
+    let mut room = [0u64; 17];
+    let covers = &mut room[0..rows.len()];
+    cover(judge, table.entries(), rows, covers);
+    seat_each(judge, table, table.descriptors(), rows, covers, work)
+}
+
+/// The seats of the rows on the smallest descriptor that carries them; none where there are no rows, or no descriptor carries them.
+pub fn seating<J: Judge, R: NumberedRow>(
+    judge: &J,
+    table: &Table,
+    rows: &[R],
+    scratch: &mut [u8],
+) -> Result<Option<Seating>, Refusal>
+    ensures scratch { λ _. ⌜ now (scratch .exit) ≡ leftOver (now (scratch .entry)) ⌝ }
+    ensures answer { λ r. ⌜ Cases r (λ o. Passed (scratchChecks (now (scratch .entry))) × Seating-of (R·NumberedRow .named) (R·Row .asks) (J·Judge .covers (now (judge .entry))) (standing (now (table .entry))) (now (rows .entry)) o) (λ k. First (scratchChecks (now (scratch .entry))) k) ⌝ }
+{
+    if scratch.len() < ROOM {
+        return Err(Refusal::Scratch);
+    }
+    let guard = Guard { bytes: scratch };
+    let seats = seat_all(judge, table, rows, &mut guard.bytes[0..WORK]);
+    Ok(seats)
 }

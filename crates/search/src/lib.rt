@@ -8,9 +8,12 @@ mod found;
 mod guard;
 mod laws;
 mod row;
+mod seat;
+mod seats;
 mod settle;
 
 pub use call::search;
+pub use call::seating;
 pub use call::smallest;
 pub use found::Found;
 pub use found::NoteRow;
@@ -19,3 +22,5 @@ pub use guard::ROOM;
 pub use laws::block_refutes;
 pub use row::NumberedRow;
 pub use row::Row;
+pub use seat::Seat;
+pub use seat::Seating;

@@ -13,8 +13,8 @@ use matching::place;
 use table::AlternativeSet;
 use table::Entry;
 
-// Fills the board, and seats its rows at the sets.
-fn arrange(
+/// Fills the board, and seats its rows at the sets.
+pub(crate) fn arrange(
     entries: &[Entry],
     sets: &[AlternativeSet],
     covers: &[u64],

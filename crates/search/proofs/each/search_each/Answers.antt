@@ -12,25 +12,32 @@ use Rattle.table.specs.Rows.{membersOf, setsOf, entryRows, descriptorRow, descr
 use Rattle.table.specs.Sets.{Standing}
 use Rattle.search.specs.declared.found.NoteRow.{NoteRow}
 use Rattle.search.specs.Lists.{At}
-use Rattle.search.specs.Answers.{Stands}
+use Rattle.search.specs.Answers.{Noted}
 use Rattle.search.specs.Settling.{meetsAt, Blocked-by}
 use Rattle.search.proofs.Covers.{at-mapped}
-use Rattle.search.proofs.Outcomes.{shown-none, shown-more, shown-all, first, carried, noted}
+use Rattle.search.proofs.Outcomes.{shown-all, shown-past, least, carried, noted}
+use Rattle.search.proofs.Pairs.{paired-none, paired-more}
 use Rattle.search.proofs.each.search_each.Needs as need
 
 pub loop-d-holds : need.loop-d-holds
 loop-d-holds c covers ps cov up =
-    shown-none covers (record { entries = entryRows (c .args .entries .now); descriptors = descriptorRows (c .args .descriptors .now) }) ps (items (c .new-note .result)) (c .new-note .ensures)
+    let t : Standing = record { entries = entryRows (c .args .entries .now); descriptors = descriptorRows (c .args .descriptors .now) } in
+    paired-none (λ _ d w. Noted covers t ps d w) (t .descriptors) (items (c .new-note .result)) (c .new-note .ensures)
 
 pub returns-in-Carried : need.returns-in-Carried
 returns-in-Carried c covers ps cov up rise =
     let t : Standing = record { entries = entryRows (c .args .entries .now); descriptors = descriptorRows (c .args .descriptors .now) } in
     let d = descriptorRow (c .d-item .result) in
     let here : At d (t .descriptors) (c .loop-d .d-index) = at-mapped descriptorRow (c .args .descriptors .now) (c .loop-d .d-index) (c .d-item .result) (c .loop-d-test .taken, sym (c .d-item .is)) in
-    first covers t ps rise (c .loop-d .d-index) (items (c .loop-d .note)) d here (c .loop-d .inv covers ps cov up)
-    (carried covers t ps up (c .args .covers .now) cov d
-    (subst (λ (n : ℕ). board.Carries (meetsAt (t .entries) (d .value) (c .args .covers .now)) (length (c .args .covers .now)) n) (sym (length-map (items (c .d-item .result .sets)) membersOf))
-    (subst (λ (u : List AlternativeSet). board.Carries (meetsAt (t .entries) (map membersOf u) (c .args .covers .now)) (length (c .args .covers .now)) (length u)) (c .as-slice .ensures .list) (c .in-Carried .ensures tt))))
+    record {
+      descriptor = d;
+      stands = (c .loop-d .d-index, here);
+      carries = carried covers t ps up (c .args .covers .now) cov d
+          (subst (λ (n : ℕ). board.Carries (meetsAt (t .entries) (d .value) (c .args .covers .now)) (length (c .args .covers .now)) n) (sym (length-map (items (c .d-item .result .sets)) membersOf))
+          (subst (λ (u : List AlternativeSet). board.Carries (meetsAt (t .entries) (map membersOf u) (c .args .covers .now)) (length (c .args .covers .now)) (length u)) (c .as-slice .ensures .list) (c .in-Carried .ensures tt)));
+      number = refl;
+      least = least covers t ps rise (c .loop-d .d-index) d here (shown-past covers t ps (c .loop-d .d-index) (items (c .loop-d .note)) (c .loop-d .inv covers ps cov up));
+    }
 
 pub loop-d-again : need.loop-d-again
 loop-d-again c covers ps cov up =
@@ -40,7 +47,7 @@ loop-d-again c covers ps cov up =
     let here : At d (t .descriptors) (c .loop-d .d-index) = at-mapped descriptorRow (c .args .descriptors .now) (c .loop-d .d-index) (c .d-item .result) (c .loop-d-test .taken, sym (c .d-item .is)) in
     let inv = c .loop-d .inv covers ps cov up in
     let note = items (c .loop-d .note) in
-    shown-more covers t ps (c .loop-d .d-index) note (items (c .push-room .last .self)) d w here
+    paired-more (λ _ d w. Noted covers t ps d w) (t .descriptors) (c .loop-d .d-index) note (items (c .push-room .last .self)) d w here
     (noted covers t ps up (c .args .covers .now) cov d w refl
     (subst (λ (n : ℕ). Blocked-by (meetsAt (t .entries) (d .value) (c .args .covers .now)) (length (c .args .covers .now)) n (w .group) (w .sets)) (sym (length-map (items (c .d-item .result .sets)) membersOf))
     (subst (λ (u : List AlternativeSet). Blocked-by (meetsAt (t .entries) (map membersOf u) (c .args .covers .now)) (length (c .args .covers .now)) (length u) (w .group) (w .sets)) (c .as-slice .ensures .list) (c .in-Blocked .ensures tt))))
