@@ -24,7 +24,7 @@ impl<'a> Cursor<'a> {
 
     /// The next record, while there is a whole one.
     pub fn next(&mut self) -> Option<Record<'a>>
-        ensures { λ r. ⌜ Cases r (rows (now (self .entry)) ≡ []) (λ x. rows (now (self .entry)) ≡ octets x ∷ rows (now (self .exit))) ⌝ }
+        ensures { λ r. ⌜ Cases r ((rows (now (self .entry)) ≡ []) × (rows (now (self .exit)) ≡ [])) (λ x. rows (now (self .entry)) ≡ octets x ∷ rows (now (self .exit))) ⌝ }
     {
         let Some((front, back)) = self.rest.split_first_chunk::<32>() else {
             return None;
@@ -35,7 +35,7 @@ impl<'a> Cursor<'a> {
 
     /// What the next record says.
     pub fn read(&mut self) -> Option<Said>
-        ensures { λ r. ⌜ Cases r (says (now (self .entry)) ≡ []) (λ x. says (now (self .entry)) ≡ rec x ∷ says (now (self .exit))) ⌝ }
+        ensures { λ r. ⌜ Cases r ((says (now (self .entry)) ≡ []) × (says (now (self .exit)) ≡ [])) (λ x. says (now (self .entry)) ≡ rec x ∷ says (now (self .exit))) ⌝ }
     {
         let Some(record) = self.next() else {
             return None;
