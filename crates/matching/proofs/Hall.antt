@@ -1,3 +1,4 @@
+-- A blocking group excludes a seating: its rows would sit on more sets than they can use.
 use Prim.Native.Nat.{ℕ, _<_, _≤_}
 use mathlib.Core.Path.{_≡_}
 use mathlib.Core.Bool.{Bool, true, _&&_}

@@ -66,10 +66,3 @@ module _ (h g : ℕ → Bool) (n : ℕ) (put : (k : ℕ) → g k ≡ (eqb k n ||
         ap (λ (b : Bool). b || among k left) (put k ∙ ap (λ (b : Bool). b || h k) (eqb-sym k n))
         ∙ turned (eqb n k) (h k) (among k left) ∙ m .held k;
   }
-
--- a number that was marked stands there twice
-pub marked-twice : (h : ℕ → Bool) (n : ℕ) (left all : List ℕ) → h n ≡ true → Marked h (n ∷ left) all → repeats all ≡ true
-marked-twice h n left all f m = sym (m .once) ∙ or-right (repeats (n ∷ left)) _ (or-left (h n) (hits h left) f)
-
-pub marked-all : (h : ℕ → Bool) (all : List ℕ) → Marked h [] all → (repeats all ≡ false) × ((n : ℕ) → h n ≡ among n all)
-marked-all h all m = (sym (m .once), λ n. sym (or-false (h n)) ∙ m .held n)
