@@ -1,13 +1,13 @@
 -- Masks: what the program's `(x >> s) & 1 == 1` and `x | (1 << s)` say of the bits.
-use Prim.Native.Nat.{ℕ, zero, suc, _+_, _-_, _*_, _/_, _%_, _^_, _<_, _≤_}
-use mathlib.Core.Path.{_≡_, refl, sym, ap, subst, _∙_}
-use mathlib.Core.Bool.{Bool, true, false}
-use mathlib.Core.Logic.{_⊎_, inl, inr, ⊎-elim}
+use Prim.Native.Nat.{ℕ, _+_, _-_, _/_, _%_, _^_, _<_, _≤_}
+use mathlib.Core.Path.{_≡_, ap, _∙_}
+use mathlib.Core.Bool.{true, false}
+use mathlib.Core.Logic.{_⊎_, ⊎-elim}
 use native.Mathlib.Omega.{arith}
 use native.Mathlib.Nat.{div-self, div-eq-of-lt, zero-div, mul-mod-left, mod-lt}
 use lib.Dec.{eqb}
 use lib.Bits.{bitAnd, bitOr, or-zero-r}
-use Rattle.std.proofs.shelf.Bits.{and-mask, or-shr, or-mod, or-lt, one-shl, pow-pos, pow-add, pow-below, shl-shr}
+use Rattle.std.proofs.shelf.Bits.{and-mask, or-shr, or-mod, pow-pos, pow-add, pow-below, shl-shr}
 use Rattle.std.proofs.shelf.Tests.{cases-eq, cases-lt}
 use Rattle.bounded.specs.Bit.{bit}
 

@@ -1,8 +1,8 @@
 -- The bits of masks: what is set in one and not in another, and the lowest that is set.
-use mathlib.Core.Path.{_≡_, refl, sym, ap, subst, _∙_}
-use mathlib.Core.Bool.{Bool, true, false, _||_}
+use mathlib.Core.Path.{_≡_, refl, sym, ap, _∙_}
+use mathlib.Core.Bool.{true, false, _||_}
 use mathlib.Core.Logic.{_⊎_, inl, inr}
-use Prim.Native.Nat.{ℕ, zero, suc, _+_, _*_, _/_, _%_, _^_, _<_, _≤_}
+use Prim.Native.Nat.{ℕ, zero, suc, _/_, _%_, _^_, _<_}
 use native.Mathlib.Nat.{mod-lt, pow-suc, div-one}
 use native.Mathlib.Numerals.{one-add}
 use native.Mathlib.Omega.{arith}
@@ -10,9 +10,8 @@ use lib.Bits.{bitOr, bitXor}
 use lib.Count.{trailingZeros, under}
 use lib.Dec.{eqb}
 use Rattle.std.proofs.shelf.Bits.{or-shr, or-mod, xor-shr, xor-mod, shr-shr}
-use Rattle.std.proofs.shelf.Tests.{cases-eq, eq-eqb, ne-eqb, eqb-true, eqb-false, both-ways}
+use Rattle.std.proofs.shelf.Tests.{cases-eq, eq-eqb, eqb-true, both-ways}
 use Rattle.bounded.specs.Bit.{bit}
-use Rattle.bounded.proofs.Mask.{bit-zero}
 
 -- a digit is 0 or 1
 pub digit : (x t : ℕ) → (x / 2 ^ t % 2 ≡ 0) ⊎ (x / 2 ^ t % 2 ≡ 1)

@@ -1,10 +1,9 @@
 -- A blocking group excludes a seating: its rows would sit on more sets than they can use.
-use Prim.Native.Nat.{ℕ, _<_, _≤_}
-use mathlib.Core.Path.{_≡_}
-use mathlib.Core.Bool.{Bool, true, _&&_}
+use Prim.Native.Nat.{_≤_}
+use mathlib.Core.Bool.{_&&_}
 use native.Mathlib.Omega.{arith}
 use Rattle.std.proofs.shelf.Tests.{and-from}
-use Rattle.matching.specs.Board.{count, any, reach, Carries, Blocks, Block-refutes}
+use Rattle.matching.specs.Board.{count, reach, Block-refutes}
 use Rattle.matching.proofs.Count.{count-inj, any-from}
 
 pub block-refutes : Block-refutes

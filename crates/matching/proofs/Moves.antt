@@ -1,6 +1,6 @@
 -- The steps over the octets that the program holds.
 use Prim.Native.Nat.{ℕ, _+_, _<_, _≤_}
-use mathlib.Core.Path.{_≡_, refl, sym, ap, subst, _∙_}
+use mathlib.Core.Path.{_≡_, sym, ap, subst, _∙_}
 use mathlib.Core.Bool.{Bool, true, false, not}
 use mathlib.Core.List.{List}
 use native.Mathlib.Omega.{arith}
@@ -8,9 +8,9 @@ use lib.ListN.{length, set}
 use lib.Seq.{getD-set-same, getD-set-other}
 use Rattle.std.proofs.shelf.Tests.{both-ways, not-true, not-from-false}
 use Rattle.matching.specs.Board.{count}
-use Rattle.matching.specs.Calls.{tall, at, visited, unseen, Shaped, Seatable, Vacatable, Won, Lost}
+use Rattle.matching.specs.Calls.{tall, at, visited, unseen, Seatable, Vacatable, Won, Lost}
 use Rattle.matching.specs.Masks.{can}
-use Rattle.matching.specs.Steps.{Free, Sound, Tried, Refused}
+use Rattle.matching.specs.Steps.{Free, Sound, Tried}
 use Rattle.matching.proofs.Count.{count-inj, count-less, less, less-from}
 use Rattle.matching.proofs.Steps.{Within, outside, widen, put, tried-more}
 

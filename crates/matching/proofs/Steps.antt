@@ -1,11 +1,11 @@
 -- The steps of a seating, over holders and visited sets.
-use Prim.Native.Nat.{ℕ, zero, suc, _+_, _<_, _≤_}
+use Prim.Native.Nat.{ℕ, _+_, _<_, _≤_}
 use mathlib.Core.Path.{_≡_, refl, sym, ap, subst, _∙_}
-use mathlib.Core.Bool.{Bool, true, false, cond, not, _&&_, _||_}
+use mathlib.Core.Bool.{Bool, true, false, _&&_}
 use mathlib.Core.Logic.{_⊎_, inl, inr, ⊎-elim}
 use native.Mathlib.Omega.{arith}
 use Rattle.std.proofs.shelf.Tests.{cases-eq, cases-lt, cases-bool, both-ways, and-parts}
-use Rattle.matching.specs.Board.{count, any, reach, Carries, Blocks}
+use Rattle.matching.specs.Board.{count, reach, Carries, Blocks}
 use Rattle.matching.proofs.Count.{count-inj, count-less, less, less-from, any-some}
 use Rattle.matching.specs.Steps.{Holds, Free, Sound, Seated, Tried, Refused, Placed}
 

@@ -1,11 +1,10 @@
 -- The test of order goes from tag to tag.
-use mathlib.Core.Path.{_≡_, refl, sym, _∙_, ap}
-use mathlib.Core.List.{List, [], _∷_}
-use mathlib.Core.Bool.{Bool, true, false, cond, not, _&&_}
+use mathlib.Core.Path.{_≡_, sym, _∙_, ap}
+use mathlib.Core.List.{List, _∷_}
+use mathlib.Core.Bool.{Bool, true, false, not, _&&_}
 use Prim.Native.Nat.{ℕ, zero, suc, _+_, _-_, _<_, _≤_}
 use native.Mathlib.Omega.{arith}
-use native.Mathlib.Nat.{add-zero}
-use lib.Dec.{eqb, ltb}
+use lib.Dec.{eqb}
 use lib.ListN.{length, drop, getD}
 use Rattle.std.specs.Options.{Cases}
 use Rattle.std.specs.declared.option.Option.{Option}
@@ -15,7 +14,7 @@ use Rattle.std.proofs.shelf.Tests.{lt-ltb, le-ltb, eq-eqb, ne-eqb, cond-false}
 use Rattle.records.specs.declared.stage.Stage.{Stage}
 use Rattle.records.specs.declared.stage.Stage.the-variants.{Entries}
 use Rattle.records.specs.Layout.{allZero, allNamed, shorts, be16}
-use Rattle.records.specs.Order.{none, descriptors, entries}
+use Rattle.records.specs.Order.{descriptors, entries}
 use Rattle.records.specs.Stages.{rest}
 
 pub room : (n t : ℕ) → t ≡ 5 → 0 < n → (ts : List ℕ) → descriptors n (t ∷ ts) ≡ descriptors (n - 1) ts

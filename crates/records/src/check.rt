@@ -1,7 +1,6 @@
 //! The checks of a message, each over the whole of it before the next.
 
 ghost use mathlib.Core.Path.{_≡_};
-ghost use Prim.Native.Nat.{ℕ};
 ghost use lib.ListN.{length};
 ghost use Rattle.std.specs.Results.{Cases};
 ghost use Rattle.refusals.specs.Checks.{First, Passed};

@@ -1,8 +1,8 @@
 //! The range of the fields of a record.
 
 ghost use mathlib.Core.Path.{_≡_};
-ghost use Prim.Native.Nat.{ℕ, _<_, _≤_};
-ghost use lib.ListN.{length, drop};
+ghost use Prim.Native.Nat.{_<_, _≤_};
+ghost use lib.ListN.{drop};
 ghost use Rattle.records.specs.Layout.{allZero, inRange, allInRange, shorts, allNamed};
 ghost use Rattle.records.specs.Reads.{octets, rows};
 use super::held::Cursor;

@@ -1,9 +1,9 @@
 //! Reading: the next record, its fields, and what it says.
 
 ghost use mathlib.Core.Path.{_≡_};
-ghost use mathlib.Core.List.{List, [], _∷_};
-ghost use Prim.Native.Nat.{ℕ, _+_, _*_, _<_, _≤_, min};
-ghost use lib.ListN.{length, getD};
+ghost use mathlib.Core.List.{[], _∷_};
+ghost use Prim.Native.Nat.{_+_, _*_, _<_, min};
+ghost use lib.ListN.{getD};
 ghost use Rattle.bounded.specs.Items.{items};
 ghost use Rattle.std.specs.Options.{Cases};
 ghost use Rattle.records.specs.Layout.{be16, be32, shorts, recOf};

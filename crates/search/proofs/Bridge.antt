@@ -2,11 +2,11 @@
 use mathlib.Core.Path.{_≡_, refl, sym, _∙_, ap, subst}
 use mathlib.Core.List.{List, [], _∷_}
 use mathlib.Core.Bool.{Bool, true, false, cond, _&&_, _||_}
-use mathlib.Core.Logic.{_⊎_, inl, inr}
-use Prim.Native.Nat.{ℕ, zero, suc, _+_, _<_, _≤_}
+use mathlib.Core.Logic.{inl, inr}
+use Prim.Native.Nat.{ℕ, zero, suc, _+_, _<_}
 use native.Mathlib.Omega.{arith}
-use lib.ListN.{length, getD}
-use Rattle.std.proofs.shelf.Tests.{cases-bool, cond-true, cond-false, and-parts}
+use lib.ListN.{length}
+use Rattle.std.proofs.shelf.Tests.{cases-bool, cond-true, cond-false}
 use Rattle.bounded.specs.Bit.{bit}
 use Rattle.judges.specs.declared.words.Proposal.{Proposal}
 use Rattle.matching.specs.Board as board
@@ -22,7 +22,7 @@ use Rattle.matching.proofs.Hall.{block-refutes}
 use Rattle.matching.proofs.Steps.{placed-carry}
 use Rattle.search.specs.Carrying.{Carries, grouped, usedBy, Blocks, Block-refutes}
 use Rattle.search.specs.Filling.{uses}
-use Rattle.search.specs.Settling.{Blocked-by, Arranged, Settled}
+use Rattle.search.specs.Settling.{Arranged, Settled}
 use Rattle.search.specs.Lists.{At, somePass, howMany, passAt}
 use Rattle.search.proofs.Places.{pass-at, pass-some}
 

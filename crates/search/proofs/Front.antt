@@ -1,13 +1,11 @@
 -- Of more rows than any descriptor has sets, the first show that none carries them.
 use mathlib.Core.Path.{_≡_, refl, sym, _∙_, ap, subst}
 use mathlib.Core.List.{List, [], _∷_}
-use mathlib.Core.Bool.{Bool, true, false, cond}
-use mathlib.Core.Logic.{_⊎_, inl, inr}
-use Prim.Native.Nat.{ℕ, zero, suc, _+_, _<_, _≤_}
+use mathlib.Core.Bool.{Bool, true, cond}
+use mathlib.Core.Logic.{inl, inr}
+use Prim.Native.Nat.{ℕ, zero, suc, _<_, _≤_}
 use native.Mathlib.Omega.{arith}
 use lib.ListN.{length, take}
-use Rattle.std.specs.declared.option.Option.{Option}
-use Rattle.std.specs.declared.option.Option.the-variants.{Some, None}
 use Rattle.std.proofs.shelf.Lists.{length-map, length-take-le}
 use Rattle.std.proofs.shelf.Tests.{cases-bool, cond-false}
 use Rattle.bounded.specs.Bit.{bit}
@@ -23,9 +21,9 @@ use Rattle.table.specs.Sets.{Standing, standing}
 use Rattle.search.specs.declared.found.Found.{Found}
 use Rattle.search.specs.declared.found.Found.the-variants.{Carried, Blocked}
 use Rattle.search.specs.declared.found.NoteRow.{NoteRow}
-use Rattle.search.specs.Answers.{Stands, Noted, Notes, Outcome}
+use Rattle.search.specs.Answers.{Stands, Noted, Outcome}
 use Rattle.search.specs.Carrying.{usable, Carries, grouped, usedBy}
-use Rattle.search.specs.Lists.{At, In, howMany}
+use Rattle.search.specs.Lists.{In, howMany}
 use Rattle.search.proofs.Bridge.{at-some}
 use Rattle.search.proofs.Covers.{at-map}
 

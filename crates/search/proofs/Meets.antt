@@ -1,8 +1,8 @@
 -- Masks of entries meet where a set can be used.
-use mathlib.Core.Path.{_≡_, refl, sym, _∙_, ap, subst}
+use mathlib.Core.Path.{_≡_, refl, sym, _∙_, ap}
 use mathlib.Core.List.{List, [], _∷_}
-use mathlib.Core.Bool.{Bool, true, false, cond, not, _&&_, _||_}
-use mathlib.Core.Logic.{_⊎_, inl, inr}
+use mathlib.Core.Bool.{Bool, true, false, not, _&&_}
+use mathlib.Core.Logic.{inl, inr}
 use Prim.Native.Nat.{ℕ, zero, suc, _+_, _/_, _%_, _^_, _<_, _≤_}
 use native.Mathlib.Nat.{pow-suc}
 use native.Mathlib.Omega.{arith}
@@ -13,12 +13,11 @@ use lib.ListN.{length}
 use Rattle.std.specs.declared.option.Option.{Option}
 use Rattle.std.specs.declared.option.Option.the-variants.{Some, None}
 use Rattle.std.proofs.shelf.Bits.{and-shr, and-mod}
-use Rattle.std.proofs.shelf.Tests.{cases-bool, cases-eq, cases-lt, both-ways, and-parts, and-from, or-cases, or-left, or-right, eq-eqb, eqb-true, ne-eqb, cond-true, cond-false, leb-true, not-from-false, not-true}
+use Rattle.std.proofs.shelf.Tests.{cases-bool, cases-eq, both-ways, and-parts, and-from, or-cases, or-left, or-right, eq-eqb, eqb-true, cond-true, cond-false, leb-true, not-from-false, not-true}
 use Rattle.bounded.specs.Bit.{bit}
 use Rattle.bounded.proofs.Mask.{bit-zero}
 use Rattle.judges.specs.declared.words.Capability.{Capability}
 use Rattle.judges.specs.declared.words.Proposal.{Proposal}
-use Rattle.matching.specs.Board.{any}
 use Rattle.matching.proofs.Bits.{digit, lowest-set}
 use Rattle.matching.proofs.Count.{any-from, any-some}
 use Rattle.table.specs.Keyed.{Numbered, at, among, rising, numbers}
@@ -26,7 +25,7 @@ use Rattle.table.proofs.Lookups.{at-here, at-next}
 use Rattle.search.specs.Carrying.{covering, usable}
 use Rattle.search.specs.Filling.{Covering, Placing, meeting}
 use Rattle.search.specs.Lists.{At, somePass, passAt}
-use Rattle.search.proofs.Places.{pass-past, pass-at, pass-some}
+use Rattle.search.proofs.Places.{pass-at, pass-some}
 
 -- two tests that imply each other are one
 pub same-test : (a b : Bool) → (a ≡ true → b ≡ true) → (b ≡ true → a ≡ true) → a ≡ b

@@ -1,7 +1,7 @@
 -- What is found descriptor by descriptor, in the subject's words.
 use mathlib.Core.Path.{_≡_, refl, sym, _∙_, ap, subst}
-use mathlib.Core.List.{List, [], _∷_, _++_}
-use mathlib.Core.Bool.{Bool, true, false, _&&_}
+use mathlib.Core.List.{List, [], _∷_}
+use mathlib.Core.Bool.{Bool, true}
 use mathlib.Core.Logic.{_⊎_, inl, inr}
 use Prim.Native.Nat.{ℕ, zero, suc, _+_, _<_, _≤_}
 use native.Mathlib.Omega.{arith}
@@ -13,13 +13,13 @@ use Rattle.bounded.specs.Bit.{bit}
 use Rattle.judges.specs.declared.words.Capability.{Capability}
 use Rattle.judges.specs.declared.words.Proposal.{Proposal}
 use Rattle.matching.specs.Board as board
-use Rattle.table.specs.Keyed.{Numbered, rising, numbers}
+use Rattle.table.specs.Keyed.{rising, numbers}
 use Rattle.table.specs.Sets.{Standing}
 use Rattle.search.specs.declared.found.NoteRow.{NoteRow}
 use Rattle.search.specs.Answers.{Stands, Carried-by, None-carries, Answer, Noted, Notes}
-use Rattle.search.specs.Carrying.{usable, grouped, usedBy}
+use Rattle.search.specs.Carrying.{usable, grouped}
 use Rattle.search.specs.Filling.{Covered, meeting, uses}
-use Rattle.search.specs.Lists.{At, In, passAt, howMany}
+use Rattle.search.specs.Lists.{At, In, passAt}
 use Rattle.search.specs.Settling.{meetsAt, Blocked-by}
 use Rattle.search.proofs.Bridge.{at-some, carries-is, carries-same, reach-many, blocks-is, blocks-same, blocks-refute, reach-same}
 use Rattle.search.proofs.Covers.{at-one}

@@ -10,7 +10,6 @@ use Rattle.judges.specs.declared.words.Proposal.{Proposal}
 use Rattle.matching.specs.Board.{any}
 use Rattle.matching.specs.Masks.{can}
 use Rattle.table.specs.Keyed.{Numbered, among}
-use Rattle.search.specs.Carrying.{usable}
 use Rattle.search.specs.Lists.{At, passAt}
 
 -- bit k of the mask: the entry at place k covers the proposal

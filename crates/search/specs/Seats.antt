@@ -1,9 +1,9 @@
 -- The seats of rows on the sets of a descriptor.
 use mathlib.Core.Path.{_≡_}
 use mathlib.Core.List.{List, [], map}
-use mathlib.Core.Bool.{Bool, true}
+use mathlib.Core.Bool.{Bool}
 use mathlib.Core.Logic.{_⊎_}
-use Prim.Native.Nat.{ℕ, _<_}
+use Prim.Native.Nat.{ℕ}
 use lib.ListN.{length}
 use Rattle.std.specs.declared.option.Option.{Option}
 use Rattle.std.specs.declared.option.Option.the-variants.{Some, None}
@@ -15,7 +15,7 @@ use Rattle.table.specs.Sets.{Standing}
 use Rattle.search.specs.declared.seat.Seat.{Seat}
 use Rattle.search.specs.declared.seat.Seating.{Seating}
 use Rattle.search.specs.Answers.{Smallest, None-carries}
-use Rattle.search.specs.Carrying.{covering, usable}
+use Rattle.search.specs.Carrying.{covering}
 use Rattle.search.specs.Lists.{At, firstPass}
 
 -- `named` and `asks` give a row's number and its proposal

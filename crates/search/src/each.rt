@@ -1,6 +1,5 @@
 //! The descriptors one after another, by rising number.
 
-ghost use mathlib.Core.Path.{_≡_};
 ghost use Prim.Native.Nat.{_≤_};
 ghost use lib.ListN.{length};
 ghost use Rattle.table.specs.Rows.{entryRows, descriptorRows};

@@ -1,5 +1,5 @@
 -- The first check of a table that is not met, and what stands where all are.
-use mathlib.Core.Path.{_≡_, refl, sym, _∙_, ap, subst}
+use mathlib.Core.Path.{_≡_, refl, _∙_, ap, subst}
 use mathlib.Core.List.{List}
 use mathlib.Core.Bool.{Bool, true, false}
 use mathlib.Core.Logic.{inl, inr}
@@ -20,7 +20,7 @@ use Rattle.records.specs.Order.{setOrder}
 use Rattle.records.specs.Reads.{rowsOf, saysOf, tags}
 use Rattle.records.proofs.Known.{sound, tags-said, all-sound}
 use Rattle.records.proofs.Orders.{set-of}
-use Rattle.table.specs.Keyed.{Numbered, After, mentioned, repeats, rising, numbers}
+use Rattle.table.specs.Keyed.{Numbered, rising, numbers}
 use Rattle.table.specs.Message.{entriesIn, descriptorsIn, allLawful, narrow}
 use Rattle.table.specs.Merge.{merging}
 use Rattle.table.specs.Sets.{Standing, Merged, Once, Leaves, Done, message, tableChecks, setChecks}

@@ -1,14 +1,14 @@
 -- What stands at a number in a list by rising number, after one is put in or some are left out.
 use mathlib.Core.Path.{_≡_, refl, sym, _∙_, ap}
-use mathlib.Core.List.{List, [], _∷_, map}
-use mathlib.Core.Bool.{Bool, true, false, cond, _&&_}
-use mathlib.Core.Logic.{_⊎_, inl, inr}
+use mathlib.Core.List.{List, [], _∷_}
+use mathlib.Core.Bool.{Bool, true, false, cond}
+use mathlib.Core.Logic.{inl, inr}
 use Prim.Native.Nat.{ℕ, _+_, _<_, _≤_}
 use native.Mathlib.Omega.{arith}
-use lib.Dec.{eqb, ltb, leb}
+use lib.Dec.{eqb, ltb}
 use Rattle.std.specs.declared.option.Option.{Option}
 use Rattle.std.specs.declared.option.Option.the-variants.{Some, None}
-use Rattle.std.proofs.shelf.Tests.{ltb-true, ltb-false, leb-true, eqb-true, eqb-false, eq-eqb, ne-eqb, le-leb, cond-true, cond-false, cases-bool, cases-eq, and-from, and-parts, both-ways}
+use Rattle.std.proofs.shelf.Tests.{ltb-true, ltb-false, leb-true, eq-eqb, ne-eqb, le-leb, cond-true, cond-false, cases-bool, and-from, and-parts, both-ways}
 use Rattle.table.specs.Keyed.{Numbered, rising, at, numbers}
 use Rattle.table.specs.Merge.{numberOf, keeping, putting}
 

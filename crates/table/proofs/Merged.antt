@@ -1,16 +1,16 @@
 -- The rows that the merge makes are the rows after what was said, and there is only one such list.
 use mathlib.Core.Path.{_≡_, refl, sym, _∙_, ap}
-use mathlib.Core.List.{List, [], _∷_, map}
-use mathlib.Core.Bool.{Bool, true, false, cond, _||_, _&&_}
-use mathlib.Core.Logic.{_⊎_, inl, inr}
-use Prim.Native.Nat.{ℕ, _+_, _<_, _≤_}
+use mathlib.Core.List.{List, [], _∷_}
+use mathlib.Core.Bool.{Bool, true, false, cond, _||_}
+use mathlib.Core.Logic.{inl, inr}
+use Prim.Native.Nat.{ℕ, _+_}
 use native.Mathlib.Omega.{arith}
 use lib.Dec.{eqb, leb}
 use Rattle.std.specs.declared.option.Option.{Option}
 use Rattle.std.specs.declared.option.Option.the-variants.{Some, None}
-use Rattle.std.proofs.shelf.Tests.{eqb-true, eqb-false, eq-eqb, ne-eqb, leb-true, cond-true, cond-false, cases-bool, cases-lt, cases-order, or-parts, or-left, or-right, and-parts, both-ways}
+use Rattle.std.proofs.shelf.Tests.{eqb-true, eqb-false, eq-eqb, cond-true, cond-false, cases-bool, cases-lt, cases-order, or-parts, or-left, or-right, and-parts, both-ways}
 use Rattle.table.specs.Keyed.{Numbered, Mention, Word, silent, said, rising, numbers, at, saidOf, mentioned, among, repeats, afterwards, After}
-use Rattle.table.specs.Merge.{numberOf, keeping, putting, coming, added, unnamed, merging}
+use Rattle.table.specs.Merge.{numberOf, putting, coming, added, unnamed, merging}
 use Rattle.table.proofs.Lookups.{at-here, at-next, at-below, at-put-same, at-put-other, at-keep-named, at-keep-other, rising-keep, rising-put}
 
 module _ {V : Type 0} where

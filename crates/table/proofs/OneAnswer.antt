@@ -1,16 +1,9 @@
 -- Where the same stands, the same message has the same answer and leaves the same.
-use mathlib.Core.Path.{_≡_, refl, sym, _∙_, ap, subst}
-use mathlib.Core.List.{List}
-use mathlib.Core.Bool.{Bool}
-use Prim.Native.Nat.{ℕ}
-use Rattle.std.specs.declared.result.Result.{Result}
+use mathlib.Core.Path.{sym, _∙_, ap, subst}
 use Rattle.std.specs.declared.result.Result.the-variants.{Ok, Err}
-use Rattle.judges.specs.declared.words.Capability.{Capability}
-use Rattle.refusals.specs.declared.refusal.Refusal.{Refusal}
 use Rattle.refusals.specs.Checks.{First}
 use Rattle.refusals.proofs.Firsts.{first-one, first-fails}
-use Rattle.table.specs.declared.standing.Table.{Table}
-use Rattle.table.specs.Sets.{Standing, standing, message, setChecks, Done, Sets, One-answer}
+use Rattle.table.specs.Sets.{Standing, standing, message, setChecks, Done, One-answer}
 use Rattle.table.proofs.Judged.{one-after}
 
 pub one-answer : One-answer

@@ -1,23 +1,23 @@
 -- What comes with a message that is in order and in range has the shape that a table keeps.
 use mathlib.Core.Path.{_≡_, refl, sym, _∙_, ap}
 use mathlib.Core.List.{List, [], _∷_, map}
-use mathlib.Core.Bool.{Bool, true, false, cond, _&&_}
-use mathlib.Core.Logic.{_⊎_, inl, inr}
-use Prim.Native.Nat.{ℕ, suc, _+_, _-_, _<_, _≤_}
+use mathlib.Core.Bool.{Bool, true, false, _&&_}
+use mathlib.Core.Logic.{inl, inr}
+use Prim.Native.Nat.{ℕ, suc, _-_, _<_, _≤_}
 use native.Mathlib.Omega.{arith}
 use lib.Dec.{eqb, ltb, leb}
 use lib.ListN.{length}
 use Rattle.std.specs.shelf.Lawful.{all-pass}
 use Rattle.std.specs.declared.option.Option.{Option}
 use Rattle.std.specs.declared.option.Option.the-variants.{Some, None}
-use Rattle.std.proofs.shelf.Tests.{cases-bool, cond-true, cond-false, and-parts, and-from, le-leb, leb-true, ltb-true, both-ways}
+use Rattle.std.proofs.shelf.Tests.{cases-bool, cond-true, cond-false, and-parts, and-from, le-leb, ltb-true, both-ways}
 use Rattle.records.specs.Layout.{Rec, begin, entry, removed, descriptor, alternatives, end, mode, element, other}
 use Rattle.records.specs.Order.{none, descriptors, entries, setOrder}
 use Rattle.records.proofs.Known.{tagOf, sound}
 use Rattle.table.specs.Keyed.{Numbered, Mention, among, mentioned}
 use Rattle.table.specs.Merge.{numberOf, keeping, putting, coming, added, unnamed, merging}
 use Rattle.table.specs.Message.{entriesIn, descriptorsIn, following, setsOrNone, narrow}
-use Rattle.table.specs.Shape.{upTo, shapes, isNamed, isShaped}
+use Rattle.table.specs.Shape.{upTo, isNamed, isShaped}
 
 module _ {V : Type 0} (P : Numbered V → Bool) where
   -- where something shall stand, it is so

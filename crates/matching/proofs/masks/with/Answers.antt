@@ -1,6 +1,5 @@
-use Prim.Native.Nat.{_^_, _<_, _*_, _%_}
+use Prim.Native.Nat.{_^_, _*_, _%_}
 use mathlib.Core.Path.{_≡_}
-use lib.Bits.{bitOr}
 use Rattle.std.proofs.shelf.Bits.{one-shl, or-lt, pow-below}
 use Rattle.bounded.proofs.Mask.{set-here, set-other}
 use Rattle.matching.proofs.masks.with.Needs as need

@@ -1,14 +1,13 @@
 use borrow.Author.Count.{below-more}
-use mathlib.Core.Path.{_≡_, sym, ap, _∙_}
-use mathlib.Core.Bool.{Bool}
+use mathlib.Core.Path.{_≡_, ap, _∙_}
 use mathlib.Core.Logic.{_≢_}
-use Prim.Native.Nat.{ℕ, _<_, _≤_}
+use Prim.Native.Nat.{_<_}
 use native.Mathlib.Omega.{arith}
 use lib.ListN.{length}
 use lib.Seq.{getD-set-same, getD-set-other}
 use Rattle.bounded.specs.Bit.{bit}
 use Rattle.matching.specs.Board.{count, reach}
-use Rattle.matching.specs.Calls.{tall, Shaped}
+use Rattle.matching.specs.Calls.{tall}
 use Rattle.matching.specs.Masks.{can}
 use Rattle.matching.proofs.Count.{count-same}
 use Rattle.matching.proofs.Turns.{seatable, small, inside, blocked, further}

@@ -1,11 +1,10 @@
 use mathlib.Core.Path.{_≡_, refl, sym, _∙_, ap}
 use mathlib.Core.Bool.{Bool, true, false, _&&_, _||_}
 use Prim.Native.Nat.{ℕ}
-use lib.Bits.{bitOr}
 use Rattle.bounded.specs.Bit.{bit}
 use Rattle.bounded.proofs.Mask.{bit-zero}
-use Rattle.matching.specs.Board.{any, reach}
-use Rattle.matching.specs.Masks.{maskAt, can}
+use Rattle.matching.specs.Board.{any}
+use Rattle.matching.specs.Masks.{can}
 use Rattle.matching.proofs.Bits.{bit-or}
 use Rattle.matching.proofs.Count.{any-more}
 use Rattle.matching.proofs.placing.reached.Needs as need

@@ -1,6 +1,5 @@
 -- A set message: the table's own contract is the step.
-use mathlib.Core.Path.{_≡_, sym, ap, subst}
-use Prim.Native.Nat.{ℕ}
+use mathlib.Core.Path.{sym, ap, subst}
 use lib.ListN.{getD}
 use Rattle.cutting.specs.declared.piece.Piece.{Piece}
 use Rattle.cutting.specs.Pieces.{portion}

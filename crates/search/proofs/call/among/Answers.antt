@@ -1,6 +1,5 @@
 use mathlib.Core.List.{List, map}
-use Prim.Native.Nat.{ℕ}
-use mathlib.Core.Path.{_≡_, subst}
+use mathlib.Core.Path.{subst}
 use Rattle.judges.specs.declared.words.Capability.{Capability}
 use Rattle.table.specs.Keyed.{Numbered}
 use Rattle.table.specs.Rows.{descriptorRows}

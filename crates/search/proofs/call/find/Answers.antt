@@ -1,8 +1,8 @@
 use mathlib.Core.List.{List, map}
-use mathlib.Core.Path.{_≡_, sym, subst}
-use Prim.Native.Nat.{ℕ, _<_}
+use mathlib.Core.Path.{sym, subst}
+use Prim.Native.Nat.{_<_}
 use native.Mathlib.Omega.{arith}
-use lib.ListN.{length, take}
+use lib.ListN.{length}
 use Rattle.std.proofs.shelf.Lists.{length-map, take-map}
 use Rattle.judges.specs.declared.words.Proposal.{Proposal}
 use Rattle.table.specs.Sets.{standing}

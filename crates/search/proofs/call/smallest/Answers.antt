@@ -1,5 +1,5 @@
 use mathlib.Core.List.{map}
-use mathlib.Core.Path.{_≡_, sym, subst}
+use mathlib.Core.Path.{subst}
 use Rattle.bounded.specs.Items.{items}
 use Rattle.table.specs.Sets.{standing}
 use Rattle.search.specs.Answers.{Outcome}

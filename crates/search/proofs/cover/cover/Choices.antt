@@ -1,6 +1,5 @@
-use mathlib.Core.Path.{_≡_}
 use Prim.Native.Nat.{ℕ, _<_}
-use lib.ListN.{length, getD}
+use lib.ListN.{getD}
 use Rattle.table.specs.Rows.{entryRows}
 use Rattle.search.specs.Filling.{Covering}
 use Rattle.search.specs.Lists.{At}

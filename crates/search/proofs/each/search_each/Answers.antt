@@ -1,6 +1,6 @@
-use mathlib.Core.Path.{_≡_, refl, sym, _∙_, ap, subst}
+use mathlib.Core.Path.{_≡_, refl, sym, _∙_, subst}
 use mathlib.Core.List.{List, [], _∷_, _++_, map}
-use Prim.Native.Nat.{ℕ, _<_, _≤_}
+use Prim.Native.Nat.{ℕ}
 use native.Mathlib.Omega.{arith}
 use lib.ListN.{length}
 use Rattle.std.proofs.shelf.Lists.{length-map}
@@ -8,7 +8,7 @@ use Rattle.std.proofs.shelf.Tests.{cond-true, lt-ltb}
 use Rattle.bounded.specs.Items.{items}
 use Rattle.matching.specs.Board as board
 use Rattle.table.specs.declared.held.AlternativeSet.{AlternativeSet}
-use Rattle.table.specs.Rows.{membersOf, setsOf, entryRows, descriptorRow, descriptorRows}
+use Rattle.table.specs.Rows.{membersOf, entryRows, descriptorRow, descriptorRows}
 use Rattle.table.specs.Sets.{Standing}
 use Rattle.search.specs.declared.found.NoteRow.{NoteRow}
 use Rattle.search.specs.Lists.{At}

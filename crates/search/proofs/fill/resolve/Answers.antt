@@ -1,4 +1,3 @@
-use Prim.Native.Nat.{_≤_}
 use Rattle.table.specs.Rows.{membersOf, entryRows}
 use Rattle.search.specs.Filling.{Placing}
 use Rattle.search.proofs.Covers.{each-all}

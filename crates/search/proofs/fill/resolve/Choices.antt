@@ -1,4 +1,3 @@
-use lib.ListN.{getD}
 use Rattle.table.specs.Rows.{membersOf, entryRows}
 use Rattle.search.specs.Filling.{Placing}
 use Rattle.search.proofs.Covers.{Each}

@@ -3,7 +3,7 @@ use mathlib.Core.Bool.{not}
 use Prim.Native.Nat.{ℕ, _<_}
 use lib.Bits.{bitAnd}
 use lib.Dec.{eqb}
-use lib.ListN.{length, getD}
+use lib.ListN.{getD}
 use Rattle.matching.specs.Masks.{can}
 use Rattle.search.specs.Lists.{passAt}
 use Rattle.search.proofs.fill.write_rows.Given as given

@@ -1,5 +1,5 @@
 use mathlib.Core.Bool.{Bool}
-use mathlib.Core.Path.{_≡_, sym, _∙_, ap}
+use mathlib.Core.Path.{sym, _∙_, ap}
 use Prim.Native.Nat.{ℕ}
 use Rattle.std.proofs.shelf.Lists.{at-drop-all}
 use Rattle.table.specs.Keyed.{at}

@@ -1,8 +1,6 @@
 use mathlib.Core.List.{List, map}
-use mathlib.Core.Path.{_≡_, refl, sym, subst}
-use Prim.Native.Nat.{ℕ, _<_}
+use mathlib.Core.Path.{refl, sym, subst}
 use native.Mathlib.Omega.{arith}
-use lib.ListN.{length}
 use Rattle.std.proofs.shelf.Lists.{length-map}
 use Rattle.bounded.specs.Items.{items}
 use Rattle.table.specs.declared.held.AlternativeSet.{AlternativeSet}

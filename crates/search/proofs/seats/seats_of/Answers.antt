@@ -1,6 +1,5 @@
-use mathlib.Core.List.{List, [], _∷_, _++_, map}
-use mathlib.Core.Path.{_≡_, refl, sym, _∙_, subst}
-use Prim.Native.Nat.{ℕ, _<_}
+use mathlib.Core.List.{[], _∷_, _++_, map}
+use mathlib.Core.Path.{_≡_, sym, _∙_}
 use native.Mathlib.Omega.{arith}
 use lib.ListN.{length}
 use Rattle.std.proofs.shelf.Lists.{length-map}
@@ -9,7 +8,6 @@ use Rattle.bounded.specs.Items.{items}
 use Rattle.matching.specs.Calls.{at}
 use Rattle.table.specs.Rows.{membersOf}
 use Rattle.table.specs.Sets.{entriesOf}
-use Rattle.search.specs.Lists.{At}
 use Rattle.search.proofs.Pairs.{paired-more}
 use Rattle.search.proofs.Seated.{Held, seats-all, has-seat}
 use Rattle.search.proofs.seats.seats_of.Needs as need

@@ -1,4 +1,4 @@
-use mathlib.Core.Path.{_≡_, sym, _∙_, ap}
+use mathlib.Core.Path.{sym, _∙_, ap}
 use Rattle.table.specs.Shape.{areDefined}
 use Rattle.table.specs.Rows.{membersOf, entryRows}
 use Rattle.table.proofs.All.{all-stops, all-more, all-ends}

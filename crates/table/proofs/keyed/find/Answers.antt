@@ -1,4 +1,4 @@
-use mathlib.Core.Path.{_≡_, sym, _∙_}
+use mathlib.Core.Path.{sym, _∙_}
 use Rattle.table.proofs.Turns.{find-here, find-next, find-end}
 use Rattle.table.proofs.keyed.find.Needs as need
 

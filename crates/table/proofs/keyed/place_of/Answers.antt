@@ -1,8 +1,4 @@
-use mathlib.Core.Path.{_≡_, sym, _∙_}
-use Prim.Native.Nat.{_+_, _<_, _≤_}
 use native.Mathlib.Omega.{arith}
-use lib.ListN.{length, drop}
-use Rattle.table.specs.Merge.{place}
 use Rattle.table.proofs.Turns.{place-here, place-next, place-end}
 use Rattle.table.proofs.keyed.place_of.Needs as need
 

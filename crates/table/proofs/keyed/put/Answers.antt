@@ -1,5 +1,4 @@
-use mathlib.Core.Path.{_≡_, sym, _∙_, ap}
-use Prim.Native.Nat.{ℕ}
+use mathlib.Core.Path.{_≡_, _∙_, ap}
 use Rattle.bounded.specs.Items.{items}
 use Rattle.table.specs.Merge.{place}
 use Rattle.table.proofs.Turns.{put-list, put-room}

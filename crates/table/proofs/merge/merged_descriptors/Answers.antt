@@ -18,7 +18,7 @@ use Rattle.table.specs.declared.held.Descriptor.{Descriptor}
 use Rattle.table.specs.Keyed.{Numbered}
 use Rattle.table.specs.Message.{descriptorsIn, following, setsOrNone, narrow}
 use Rattle.table.specs.Merge.{added, coming, putting, numberOf}
-use Rattle.table.specs.Rows.{membersOf, setsOf, descriptorRow, descriptorRows}
+use Rattle.table.specs.Rows.{membersOf, setsOf, descriptorRow}
 use Rattle.table.proofs.Views.{kept-unnamed, put-more, put-full}
 use Rattle.table.proofs.merge.merged_descriptors.Needs as need
 

@@ -11,7 +11,7 @@ use Rattle.table.specs.declared.held.Entry.{Entry}
 use Rattle.table.specs.Keyed.{Numbered}
 use Rattle.table.specs.Message.{entriesIn}
 use Rattle.table.specs.Merge.{added, putting, numberOf}
-use Rattle.table.specs.Rows.{entryRow, entryRows}
+use Rattle.table.specs.Rows.{entryRow}
 use Rattle.table.proofs.Views.{kept-unnamed, put-more, put-full}
 use Rattle.table.proofs.merge.merged_entries.Needs as need
 

@@ -1,8 +1,7 @@
-use mathlib.Core.Path.{_≡_, sym, _∙_, ap, subst}
+use mathlib.Core.Path.{sym, _∙_, ap, subst}
 use mathlib.Core.List.{List}
 use Prim.Native.Nat.{ℕ}
 use Rattle.bounded.specs.Numbers.{holds}
-use Rattle.records.specs.Layout.{Rec}
 use Rattle.records.specs.Reads.{says}
 use Rattle.std.proofs.shelf.Tests.{not-true}
 use Rattle.table.specs.Parts.{numbersIn}

@@ -1,6 +1,6 @@
 use mathlib.Core.Path.{_≡_}
 use mathlib.Core.List.{_∷_}
-use Prim.Native.Nat.{_+_, _-_}
+use Prim.Native.Nat.{_-_}
 use lib.ListN.{drop, getD, length}
 use lib.Seq.{paste}
 use Rattle.bounded.proofs.held.Cells.open.Given as given

@@ -1,7 +1,7 @@
-use mathlib.Core.Path.{_≡_, refl, sym, _∙_, ap, subst}
+use mathlib.Core.Path.{_≡_, sym, _∙_, ap, subst}
 use mathlib.Core.List.{List}
-use mathlib.Core.Bool.{Bool, true}
-use Prim.Native.Nat.{ℕ, _<_, _≤_}
+use mathlib.Core.Bool.{Bool}
+use Prim.Native.Nat.{ℕ, _≤_}
 use native.Mathlib.Omega.{arith}
 use lib.ListN.{length}
 use Rattle.std.proofs.shelf.Lists.{length-map}
@@ -12,15 +12,12 @@ use Rattle.bounded.specs.Items.{items}
 use Rattle.bounded.proofs.Most.{items-most}
 use Rattle.judges.specs.declared.words.Capability.{Capability}
 use Rattle.refusals.specs.declared.refusal.Refusal.the-variants.{Unlawful, Twice, Entries, Descriptors, Undefined}
-use Rattle.records.specs.Layout.{Rec}
-use Rattle.records.specs.Reads.{rows, rowsOf, saysOf, says}
+use Rattle.records.specs.Reads.{rows, saysOf, says}
 use Rattle.table.specs.declared.held.Descriptor.{Descriptor}
 use Rattle.table.specs.declared.held.Entry.{Entry}
 use Rattle.table.specs.Keyed.{Numbered, rising, numbers}
-use Rattle.table.specs.Merge.{merging}
-use Rattle.table.specs.Message.{entriesIn, descriptorsIn}
 use Rattle.table.specs.Rows.{entryRow, entryRows, descriptorRow, descriptorRows}
-use Rattle.table.specs.Sets.{Standing, Merged, Once, standing, message}
+use Rattle.table.specs.Sets.{Merged, Once, standing, message}
 use Rattle.table.specs.Shape.{isNamed, isShaped, defined}
 use Rattle.table.proofs.Judged.{same-standing, refused-unlawful, refused-twice, refused-entries, refused-descriptors, refused-undefined, passed, merged, late, done, narrows, stay-named, stay-shaped}
 use Rattle.table.proofs.standing.Table.after.Needs as need

@@ -4,7 +4,6 @@ use Prim.Native.Nat.{ℕ}
 use Rattle.std.specs.Options.{mapped}
 use Rattle.std.specs.declared.option.Option.{Option}
 use Rattle.bounded.specs.Items.{items}
-use Rattle.judges.specs.declared.words.Capability.{Capability}
 use Rattle.table.specs.declared.held.Entry.{Entry}
 use Rattle.table.specs.Keyed.{at}
 use Rattle.table.specs.Merge.{findIn}
