@@ -15,9 +15,9 @@ use Rattle.cutting.specs.Cut.{Kind, bad-record, tag, front, starts, Extent, Cu
 pub long : (xs octets : List ℕ) → octets ≡ take 32 xs → 32 ≤ length xs → length octets ≡ 32
 long xs octets before enough = ap length before ∙ length-take-le 32 xs enough
 
--- a record of any other tag than 1 is a bad record
-pub starts-bad : (t : ℕ) → t ≢ 1 → starts t ≡ bad-record
-starts-bad t h = cond-false (eqb t 1) _ _ (ne-eqb t 1 h)
+-- a record of any other tag than 1 and 7 is a bad record
+pub starts-bad : (t : ℕ) → t ≢ 1 → t ≢ 7 → starts t ≡ bad-record
+starts-bad t h k = cond-false (eqb t 1) _ _ (ne-eqb t 1 h) ∙ cond-false (eqb t 7) _ _ (ne-eqb t 7 k)
 
 -- the kind that the first record starts is the kind of the piece at the front
 at-front : (xs octets : List ℕ) → octets ≡ take 32 xs → 32 ≤ length xs → starts (getD octets 0 0) ≡ front xs

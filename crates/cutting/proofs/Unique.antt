@@ -5,13 +5,19 @@ use mathlib.Core.Logic.{inl, inr}
 use Prim.Native.Nat.{ℕ, _<_}
 use native.Mathlib.Omega.{arith}
 use lib.ListN.{length}
-use Rattle.cutting.specs.Cut.{Kind, set-message, bad-record, short-rest, Portion, SetExtent, Extent, Cut, Pieces, One-cutting}
+use Rattle.cutting.specs.Cut.{Kind, set-message, mode-message, bad-record, short-rest, Portion, SetExtent, ModeExtent, Extent, Cut, Pieces, One-cutting}
 
 -- no set message at the front is shorter than another there
 set-below : (xs : List ℕ) (j k : ℕ) → SetExtent xs j → SetExtent xs k → j < k → ⊥
 set-below xs j k a b h =
     let m = a .some in let n = b .most in let o = b .whole in
     elim (a .stops) [ inl t ↦ b .unended _ (omega arith) t | inr r ↦ elim r [ inl e ↦ omega arith | inr f ↦ f (omega arith) ] ]
+
+-- no mode message at the front is shorter than another there
+mode-below : (xs : List ℕ) (j k : ℕ) → ModeExtent xs j → ModeExtent xs k → j < k → ⊥
+mode-below xs j k a b h =
+    let n = b .most in let o = b .whole in
+    elim (a .stops) [ inl e ↦ omega arith | inr r ↦ elim r [ inl f ↦ f (omega arith) | inr g ↦ g (b .tags j (omega arith)) ] ]
 
 -- numbers of which neither is below the other are equal
 not-below : (j k : ℕ) → (j < k → ⊥) → (k < j → ⊥) → j ≡ k
@@ -20,6 +26,7 @@ not-below j k a b = omega arith
 -- pieces of one kind at the front have one extent
 same-extent : (xs : List ℕ) (w : Kind) (m n : ℕ) → Extent xs w m → Extent xs w n → m ≡ n
 same-extent xs set-message m n (j, (d, a)) (k, (e, b)) = let h = not-below j k (set-below xs j k a b) (set-below xs k j b a) in omega arith
+same-extent xs mode-message m n (j, (d, a)) (k, (e, b)) = let h = not-below j k (mode-below xs j k a b) (mode-below xs k j b a) in omega arith
 same-extent xs bad-record m n a b = omega arith
 same-extent xs short-rest m n a b = omega arith
 

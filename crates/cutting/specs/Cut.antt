@@ -10,6 +10,7 @@ use lib.ListN.{length, getD}
 -- The kinds of pieces.
 pub data Kind : Type 0 where
   set-message : Kind
+  mode-message : Kind
   bad-record : Kind
   short-rest : Kind
 
@@ -28,7 +29,7 @@ More xs k = 32 * k + 32 ≤ length xs
 
 -- the kind of the piece that begins with a record of tag t
 abbrev pub starts : ℕ → Kind
-starts t = cond (eqb t 1) set-message bad-record
+starts t = cond (eqb t 1) set-message (cond (eqb t 7) mode-message bad-record)
 
 -- the kind of the piece at the front of the input
 abbrev pub front : List ℕ → Kind
@@ -44,9 +45,24 @@ pub record SetExtent (xs : List ℕ) (k : ℕ) : Type 0 where
   -- the last has tag 6, or is the 512th, or no whole record follows it
   pub stops : (tag xs (k - 1) ≡ 6) ⊎ ((k ≡ 512) ⊎ (More xs k → ⊥))
 
+-- a record of a mode message has tag 7 or 8
+abbrev pub OfMode : ℕ → Type 0
+OfMode t = (t ≡ 7) ⊎ (t ≡ 8)
+
+-- A mode message at the front takes k records of tags 7 and 8: to the last before one of another tag, the 272nd or the last whole one.
+pub record ModeExtent (xs : List ℕ) (k : ℕ) : Type 0 where
+  pub some : 1 ≤ k
+  pub whole : 32 * k ≤ length xs
+  pub most : k ≤ 272
+  -- each of them has tag 7 or 8
+  pub tags : (i : ℕ) → i < k → OfMode (tag xs i)
+  -- the last is the 272nd, or no whole record follows it, or the one that follows has another tag
+  pub stops : (k ≡ 272) ⊎ ((More xs k → ⊥) ⊎ (OfMode (tag xs k) → ⊥))
+
 -- a piece of a kind at the front takes n octets
 abbrev pub Extent : List ℕ → Kind → ℕ → Type 0
 Extent xs set-message n = (k : ℕ) × ((n ≡ 32 * k) × SetExtent xs k)
+Extent xs mode-message n = (k : ℕ) × ((n ≡ 32 * k) × ModeExtent xs k)
 Extent xs bad-record n = n ≡ 32
 Extent xs short-rest n = n ≡ length xs
 
@@ -57,9 +73,10 @@ pub record Cut (xs : List ℕ) (p : Portion) (rest : List ℕ) : Type 0 where
   pub extent : Extent xs (p .kind) (length (p .octets))
   pub joined : xs ≡ p .octets ++ rest
 
--- how many octets a piece of a kind can have: a set message has 1 to 512 whole records
+-- how many octets a piece of a kind can have: a set message has 1 to 512 whole records, a mode message 1 to 272
 abbrev pub Size : Kind → ℕ → Type 0
 Size set-message n = (32 ≤ n) × (n ≤ 16384) × (n % 32 ≡ 0)
+Size mode-message n = (32 ≤ n) × (n ≤ 8704) × (n % 32 ≡ 0)
 Size bad-record n = n ≡ 32
 Size short-rest n = (0 < n) × (n < 32)
 

@@ -11,6 +11,8 @@ pub impl fmt::Display for Line as LineDisplay {
     fn fmt<W: fmt::Write>(&self, f: &mut fmt::Formatter<W>) -> fmt::Result {
         match *self {
             Line::Set { sequence, refusal } => write!(f, "set {sequence} {refusal}"),
+            Line::Mode { place, descriptor } => write!(f, "mode 0 {place} {descriptor}"),
+            Line::NoMode { refusal } => write!(f, "mode {refusal} - -"),
             Line::Bad(tag) => write!(f, "bad {tag}"),
             Line::Short => write!(f, "short"),
         }

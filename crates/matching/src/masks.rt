@@ -45,7 +45,7 @@ pub fn put_mask(board: &mut [u8], r: usize, mask: u16)
     board[2 * r + 1] = octets[1];
 }
 
-/// The first set that is usable and not visited.
+/// A set that is usable and not visited, the first of them; which one matters to nobody.
 pub(crate) fn lowest(usable: u16, seen: u16) -> Option<usize>
     ensures { λ r. ⌜ Cases r ((s : ℕ) → bit usable s ≡ true → bit seen s ≡ true) (λ s. (bit usable s ≡ true) × (bit seen s ≡ false) × (s < 16)) ⌝ }
 {

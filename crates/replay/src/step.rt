@@ -4,11 +4,13 @@ ghost use mathlib.Core.Path.{_≡_};
 ghost use lib.ListN.{length};
 ghost use Rattle.cutting.specs.Cut.{Size};
 ghost use Rattle.cutting.specs.Pieces.{portion};
-ghost use Rattle.replay.specs.Bench.{Step, refusal};
+ghost use Rattle.replay.specs.Bench.{Step, refusal, modeLine};
 use cutting::Piece;
 use judges::StandardJudge;
 use judges::StandardJudges;
 use lines::Line;
+use modes::Available;
+use modes::request_mode;
 use refusals::Refusal;
 use table::Table;
 
@@ -19,6 +21,18 @@ fn number_of(answer: Result<u8, Refusal>) -> u8
     match answer {
         Ok(_) => 0,
         Err(refusal) => refusal.number(),
+    }
+}
+
+// The line of an answer to a mode message.
+fn mode_line(answer: Result<Available, Refusal>) -> Line
+    ensures { λ r. ⌜ r ≡ modeLine answer ⌝ }
+{
+    match answer {
+        Ok(Available { place, descriptor }) => Line::Mode { place, descriptor },
+        Err(refusal) => Line::NoMode {
+            refusal: refusal.number(),
+        },
     }
 }
 
@@ -34,6 +48,11 @@ pub(crate) fn perform(table: &mut Table, piece: Piece<'_>) -> Line
                 sequence: message[1],
                 refusal: number_of(answer),
             }
+        }
+        Piece::Mode(message) => {
+            let mut scratch = [0u8; 512];
+            let answer = request_mode(&StandardJudge, table, message, &mut scratch);
+            mode_line(answer)
         }
         Piece::Bad(record) => Line::Bad(record[0]),
         Piece::Short(_) => Line::Short,

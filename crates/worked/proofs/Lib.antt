@@ -1,0 +1,2 @@
+-- The seatings of the examples, and the group that blocks.
+pub mod Seated
