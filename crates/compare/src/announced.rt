@@ -32,7 +32,7 @@ pub struct Announced {
 
 impl Announced {
     /// Nothing announced.
-    pub fn new() -> Announced {
+    pub(crate) fn new() -> Announced {
         let capability = Capability {
             kind: 0,
             p: 0,
@@ -55,7 +55,7 @@ impl Announced {
     }
 
     /// The entry of this number, if one stands.
-    pub fn entry(&self, number: u16) -> Option<AnnouncedEntry> {
+    pub(crate) fn entry(&self, number: u16) -> Option<AnnouncedEntry> {
         for e in self.entries.as_slice() {
             if e.number == number {
                 return Some(*e);
@@ -65,7 +65,7 @@ impl Announced {
     }
 
     /// The descriptor of this number, if one stands.
-    pub fn descriptor(&self, number: u8) -> Option<AnnouncedDescriptor> {
+    pub(crate) fn descriptor(&self, number: u8) -> Option<AnnouncedDescriptor> {
         for d in self.descriptors.as_slice() {
             if d.number == number {
                 return Some(*d);

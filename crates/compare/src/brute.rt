@@ -54,7 +54,11 @@ fn sets_for(entries: &[AnnouncedEntry], sets: &[AnnouncedSet], wanted: &Proposal
 }
 
 /// The sets of the descriptor that each row can use.
-pub fn usable(entries: &[AnnouncedEntry], d: &AnnouncedDescriptor, rows: &[Asked]) -> Usable {
+pub(crate) fn usable(
+    entries: &[AnnouncedEntry],
+    d: &AnnouncedDescriptor,
+    rows: &[Asked],
+) -> Usable {
     let mut masks = Bounded::new(0);
     for row in rows {
         let _room = masks.push(sets_for(entries, d.sets.as_slice(), &row.wanted));
@@ -87,7 +91,7 @@ fn size_of(mask: usize) -> usize {
 /// Whether a descriptor carries the rows. A mask of sets is reached where the first rows, as many
 /// as it has sets, can be seated at exactly its sets; the rows are carried where a mask of as many
 /// sets as there are rows is reached.
-pub fn is_carried(usable: &[u32]) -> bool {
+pub(crate) fn is_carried(usable: &[u32]) -> bool {
     let mut reached = [false; 1024];
     reached[0] = true;
     for used in 0..MASKS {
@@ -102,7 +106,7 @@ pub fn is_carried(usable: &[u32]) -> bool {
 }
 
 /// Whether the rows find seats in order, each at the first free set that it can use, and none moves.
-pub fn is_carried_in_order(usable: &[u32]) -> bool {
+pub(crate) fn is_carried_in_order(usable: &[u32]) -> bool {
     let mut used: u32 = 0;
     for mask in usable {
         let free = *mask & !used;
@@ -115,7 +119,7 @@ pub fn is_carried_in_order(usable: &[u32]) -> bool {
 }
 
 /// The smallest number of a descriptor that carries the rows.
-pub fn smallest_of(announced: &Announced, rows: &[Asked]) -> Option<u8> {
+pub(crate) fn smallest_of(announced: &Announced, rows: &[Asked]) -> Option<u8> {
     let mut best = None;
     for d in announced.descriptors.as_slice() {
         let masks = usable(announced.entries.as_slice(), d, rows);

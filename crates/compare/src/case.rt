@@ -162,7 +162,7 @@ fn ask_short(random: &mut Random, table: &Table, rows: &[Asked], tally: &mut Tal
 }
 
 /// Does one case.
-pub fn examine(
+pub(crate) fn examine(
     random: &mut Random,
     table: &Table,
     announced: &Announced,

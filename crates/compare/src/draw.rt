@@ -28,7 +28,7 @@ pub enum Width {
 }
 
 /// A kind.
-pub fn draw_kind(random: &mut Random) -> Kind {
+pub(crate) fn draw_kind(random: &mut Random) -> Kind {
     match random.below(8) {
         0 | 1 => Kind::ALaw,
         2 => Kind::MuLaw,
@@ -39,7 +39,7 @@ pub fn draw_kind(random: &mut Random) -> Kind {
 }
 
 /// Picture intervals of CIF and QCIF, each 0 to 2, not both 0.
-pub fn draw_pictures(random: &mut Random) -> u32 {
+pub(crate) fn draw_pictures(random: &mut Random) -> u32 {
     let cif = random.below(3) as u32;
     let qcif = random.below(3) as u32;
     if cif == 0 && qcif == 0 {
@@ -50,7 +50,7 @@ pub fn draw_pictures(random: &mut Random) -> u32 {
 }
 
 /// A lawful capability of this kind, with small numbers.
-pub fn draw_capability(random: &mut Random, kind: Kind) -> Capability {
+pub(crate) fn draw_capability(random: &mut Random, kind: Kind) -> Capability {
     let frames = 1 + random.below(4) as u32;
     match kind {
         Kind::ALaw | Kind::MuLaw | Kind::T120 => Capability {
@@ -72,7 +72,7 @@ pub fn draw_capability(random: &mut Random, kind: Kind) -> Capability {
 }
 
 /// One of the entries, where there are any.
-pub fn draw_one(random: &mut Random, entries: &[AnnouncedEntry]) -> Option<AnnouncedEntry> {
+pub(crate) fn draw_one(random: &mut Random, entries: &[AnnouncedEntry]) -> Option<AnnouncedEntry> {
     if entries.is_empty() {
         return None;
     }
@@ -109,7 +109,7 @@ fn draw_set_count(random: &mut Random, width: Width) -> usize {
 }
 
 /// A descriptor of this number, with at least one set of the entries.
-pub fn draw_descriptor(
+pub(crate) fn draw_descriptor(
     random: &mut Random,
     entries: &[AnnouncedEntry],
     number: u8,
@@ -176,7 +176,7 @@ fn draw_descriptors(random: &mut Random, announced: &mut Announced, width: Width
 }
 
 /// A whole table.
-pub fn draw_table(random: &mut Random, width: Width) -> Announced {
+pub(crate) fn draw_table(random: &mut Random, width: Width) -> Announced {
     let mut announced = Announced::new();
     draw_entries(random, &mut announced);
     draw_descriptors(random, &mut announced, width);

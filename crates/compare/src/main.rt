@@ -17,7 +17,7 @@ use std::io;
 use tables::examine_table;
 use tally::Tally;
 
-// The seeds of the generator.
+// What the generator starts from, one number after the other.
 const SEEDS: [u64; 4] = [245, 7221, 7222, 65537];
 
 // How many tables are done for a seed.

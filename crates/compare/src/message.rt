@@ -27,7 +27,7 @@ impl Copy for Message {}
 
 impl Message {
     /// A message that begins, with its sequence number.
-    pub fn new(sequence: u8) -> Message {
+    pub(crate) fn new(sequence: u8) -> Message {
         let mut message = Message {
             octets: Bounded::new(0),
         };
@@ -46,7 +46,7 @@ impl Message {
     }
 
     /// Adds an entry.
-    pub fn entry(&mut self, e: &AnnouncedEntry) {
+    pub(crate) fn entry(&mut self, e: &AnnouncedEntry) {
         let [n0, n1] = e.number.to_be_bytes();
         let [p0, p1, p2, p3] = e.capability.p.to_be_bytes();
         let [q0, q1, q2, q3] = e.capability.q.to_be_bytes();
@@ -68,7 +68,7 @@ impl Message {
     }
 
     /// Adds a descriptor with its sets.
-    pub fn descriptor(&mut self, d: &AnnouncedDescriptor) {
+    pub(crate) fn descriptor(&mut self, d: &AnnouncedDescriptor) {
         self.no_descriptor(d.number);
         for s in d.sets.as_slice() {
             self.set(s);
@@ -76,17 +76,17 @@ impl Message {
     }
 
     /// Adds a descriptor without sets, which removes the one of its number.
-    pub fn no_descriptor(&mut self, number: u8) {
+    pub(crate) fn no_descriptor(&mut self, number: u8) {
         self.write(Tag::Descriptor, number, &[]);
     }
 
     /// Adds the end.
-    pub fn end(&mut self) {
+    pub(crate) fn end(&mut self) {
         self.write(Tag::End, 0, &[]);
     }
 
     /// The octets so far.
-    pub fn octets(&self) -> &[u8] {
+    pub(crate) fn octets(&self) -> &[u8] {
         self.octets.as_slice()
     }
 }

@@ -49,7 +49,7 @@ fn do_rise(note: &[NoteRow]) -> bool {
 }
 
 /// Whether the note has one row for each standing descriptor, by rising number, and each is right.
-pub fn is_note_right(note: &[NoteRow], announced: &Announced, rows: &[Asked]) -> bool {
+pub(crate) fn is_note_right(note: &[NoteRow], announced: &Announced, rows: &[Asked]) -> bool {
     for row in note {
         if !is_row_right(row, announced, rows) {
             return false;

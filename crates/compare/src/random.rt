@@ -9,8 +9,8 @@ pub struct Random {
 }
 
 impl Random {
-    /// A generator. The seed is made odd, since the state 0 would give nothing but 0.
-    pub fn new(seed: u64) -> Random {
+    /// A generator from a number, which is made odd, since the state 0 would give nothing but 0.
+    pub(crate) fn new(seed: u64) -> Random {
         Random { state: seed | 1 }
     }
 
@@ -25,7 +25,7 @@ impl Random {
     }
 
     /// A number below `end`, of the upper bits.
-    pub fn below(&mut self, end: usize) -> usize
+    pub(crate) fn below(&mut self, end: usize) -> usize
         requires { ⌜ 0 < end ⌝ }
         ensures { λ r. ⌜ r < end ⌝ }
     {
@@ -33,7 +33,7 @@ impl Random {
     }
 
     /// One octet.
-    pub fn octet(&mut self) -> u8 {
+    pub(crate) fn octet(&mut self) -> u8 {
         (self.next() >> 56) as u8
     }
 }

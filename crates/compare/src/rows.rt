@@ -148,7 +148,7 @@ fn draw_for(random: &mut Random, announced: &Announced, sets: &[AnnouncedSet]) -
 }
 
 /// The rows of a case: half the time such as one of the descriptors should mostly carry.
-pub fn draw_rows(random: &mut Random, announced: &Announced, width: Width) -> Rows {
+pub(crate) fn draw_rows(random: &mut Random, announced: &Announced, width: Width) -> Rows {
     match announced.descriptors.get(random.below(5)) {
         Some(d) => draw_for(random, announced, d.sets.as_slice()),
         None => draw_anyhow(random, announced, width),

@@ -99,7 +99,7 @@ fn draw_width(random: &mut Random) -> Width {
 }
 
 /// Does one table.
-pub fn examine_table(random: &mut Random, tally: &mut Tally) {
+pub(crate) fn examine_table(random: &mut Random, tally: &mut Tally) {
     let width = draw_width(random);
     let mut announced = draw_table(random, width);
     let mut table = Table::new();

@@ -18,7 +18,7 @@ pub struct Tally {
 
 impl Tally {
     /// Nothing done.
-    pub fn new() -> Tally {
+    pub(crate) fn new() -> Tally {
         Tally {
             tables: 0,
             messages: 0,
@@ -35,7 +35,7 @@ impl Tally {
     }
 
     /// Counts a difference where something is not as it must be.
-    pub fn expect(&mut self, is_right: bool) {
+    pub(crate) fn expect(&mut self, is_right: bool) {
         if !is_right {
             count(&mut self.differences);
         }
@@ -43,6 +43,6 @@ impl Tally {
 }
 
 /// Counts one more.
-pub fn count(counter: &mut u64) {
+pub(crate) fn count(counter: &mut u64) {
     *counter = counter.saturating_add(1);
 }

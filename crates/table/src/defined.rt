@@ -35,7 +35,7 @@ fn are_sets_defined(entries: &[Entry], sets: &[AlternativeSet]) -> bool
 }
 
 /// Whether each member of each set of each descriptor names an entry.
-pub fn are_defined(entries: &[Entry], descriptors: &[Descriptor]) -> bool
+pub(crate) fn are_defined(entries: &[Entry], descriptors: &[Descriptor]) -> bool
     ensures { λ r. ⌜ r ≡ defined (entryRows (now (entries .entry))) (descriptorRows (now (descriptors .entry))) ⌝ }
 {
     for d in descriptors {

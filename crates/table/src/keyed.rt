@@ -39,7 +39,7 @@ pub impl ByNumber for Descriptor as DescriptorByNumber {
 }
 
 /// What stands at a number.
-pub fn find<T: ByNumber + Copy>(list: &[T], number: u16) -> Option<T>
+pub(crate) fn find<T: ByNumber + Copy>(list: &[T], number: u16) -> Option<T>
     ensures { λ r. ⌜ r ≡ findIn (T·ByNumber .key) (now (list .entry)) number ⌝ }
 {
     for x in list {
@@ -64,7 +64,7 @@ fn place_of<T: ByNumber>(list: &[T], number: u16) -> usize
 }
 
 /// Puts one at its place by rising number: false, and nothing changes, where there is no room.
-pub fn put<T: ByNumber + Copy, const N: usize>(list: &mut Bounded<T, N>, x: T) -> bool
+pub(crate) fn put<T: ByNumber + Copy, const N: usize>(list: &mut Bounded<T, N>, x: T) -> bool
     ensures list { λ r. ⌜ items (now (list .exit)) ≡ cond r (putting (T·ByNumber .key) x (items (now (list .entry)))) (items (now (list .entry))) ⌝ }
     ensures room { λ r. ⌜ r ≡ ltb (length (items (now (list .entry)))) N ⌝ }
 {
@@ -73,7 +73,7 @@ pub fn put<T: ByNumber + Copy, const N: usize>(list: &mut Bounded<T, N>, x: T) -
 }
 
 /// Those that have none of the numbers.
-pub fn kept<T: ByNumber + Copy, const N: usize>(
+pub(crate) fn kept<T: ByNumber + Copy, const N: usize>(
     standing: &Bounded<T, N>,
     named: &NumberSet,
     fill: T,

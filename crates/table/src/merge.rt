@@ -42,7 +42,7 @@ fn number_in(part: Part, said: &Said) -> Option<u16>
 }
 
 /// The numbers that a message names in a part of the table: none where it names one twice.
-pub fn numbers_named(part: Part, message: Cursor) -> Option<NumberSet>
+pub(crate) fn numbers_named(part: Part, message: Cursor) -> Option<NumberSet>
     ensures { λ r. ⌜ Cases r (repeats (numbersIn part (says (message .entry))) ≡ true) (λ s. (repeats (numbersIn part (says (message .entry))) ≡ false) × ((n : ℕ) → holds s n ≡ among n (numbersIn part (says (message .entry))))) ⌝ }
 {
     let mut named = NumberSet::new();
@@ -58,7 +58,7 @@ pub fn numbers_named(part: Part, message: Cursor) -> Option<NumberSet>
 }
 
 /// The entries after a set message, by rising number: none where they are too many.
-pub fn merged_entries(
+pub(crate) fn merged_entries(
     standing: &Bounded<Entry, 64>,
     named: &NumberSet,
     message: Cursor,
@@ -105,7 +105,7 @@ fn sets_after(message: Cursor) -> Bounded<AlternativeSet, 16>
 }
 
 /// The descriptors after a set message, by rising number: none where they are too many.
-pub fn merged_descriptors(
+pub(crate) fn merged_descriptors(
     standing: &Bounded<Descriptor, 16>,
     named: &NumberSet,
     message: Cursor,
