@@ -8,7 +8,7 @@ ghost use Rattle.std.specs.Options.{Cases};
 ghost use Rattle.bounded.specs.Bit.{bit};
 ghost use Rattle.matching.specs.Masks.{maskAt};
 
-/// Whether bit `s` of the mask is set.
+/// Whether bit `s` of the mask is set. For the crates of this repository alone.
 pub fn has(mask: u32, s: usize) -> bool
     requires { ⌜ s < 32 ⌝ }
     ensures { λ b. ⌜ b ≡ bit mask s ⌝ }
@@ -16,7 +16,7 @@ pub fn has(mask: u32, s: usize) -> bool
     (mask >> s) & 1 == 1
 }
 
-/// The mask with bit `s` set.
+/// The mask with bit `s` set. For the crates of this repository alone.
 pub fn with(mask: u32, s: usize) -> u32
     requires { ⌜ s < 32 ⌝ }
     ensures here { λ r. ⌜ bit r s ≡ true ⌝ }
@@ -26,7 +26,7 @@ pub fn with(mask: u32, s: usize) -> u32
     mask | (1 << s)
 }
 
-/// The mask at place `r` of a board: two octets, the low one first.
+/// The mask at place `r` of a board: two octets, the low one first. For the crates of this repository alone.
 pub fn mask_at(board: &[u8], r: usize) -> u16
     requires { ⌜ 2 * r + 1 < length (now board) ⌝ }
     ensures { λ x. ⌜ x ≡ maskAt (now (board .entry)) r ⌝ }
@@ -34,7 +34,7 @@ pub fn mask_at(board: &[u8], r: usize) -> u16
     u16::from_le_bytes([board[2 * r], board[2 * r + 1]])
 }
 
-/// Writes the mask at place `r` of a board.
+/// Writes the mask at place `r` of a board. For the crates of this repository alone.
 pub fn put_mask(board: &mut [u8], r: usize, mask: u16)
     requires { ⌜ 2 * r + 1 < length (now board) ⌝ }
     ensures here { λ _. ⌜ maskAt (now (board .exit)) r ≡ mask ⌝ }

@@ -62,7 +62,7 @@ fn count_of(mask: u16, end: usize) -> u8
 }
 
 /// Seats each row of the board, by rising place, at a usable set of its own, of as many as `holder` has places.
-/// Where all are seated, `holder` has the row of each set; `seen` is working memory.
+/// Where all are seated, `holder` has the row of each set; `seen` is working memory. For the crates of this repository alone.
 pub fn place(board: &[u8], holder: &mut [u8], seen: &mut [u8]) -> Verdict
     requires { ⌜ Shaped (now board) (now holder) (now seen) ⌝ }
     ensures { λ v. ⌜ Judged (now (board .entry)) (length (now (holder .entry))) (now (holder .exit)) v ⌝ }
