@@ -1,5 +1,7 @@
 //! The bench: reads a recording from the standard input and prints a line for each of its messages.
 
+#![tactic(auto)]
+
 use std::io;
 use std::io::{Read, Write};
 

@@ -1,5 +1,5 @@
 -- Masks: what the program's `(x >> s) & 1 == 1` and `x | (1 << s)` say of the bits.
-use Rattle.std.proofs.Common.{◌≡◌, ℕ, ◌+◌, ◌-◌, ◌/◌, ◌%◌, ◌^◌, ◌<◌, ◌≤◌, true, false, eqb, ◌⊎◌, ap, ◌∙◌, ⊎_elim, mod-lt, arith}
+use Rattle.std.proofs.Common.{◌≡◌, ℕ, ◌+◌, ◌-◌, ◌/◌, ◌%◌, ◌^◌, ◌<◌, ◌≤◌, true, false, eqb, ap, ◌∙◌, ⊎_elim, mod-lt, arith}
 use native.Mathlib.Nat.{div_self, div-eq_of_lt, zero-div, mul-mod_left}
 use lib.Bits.{bit_and, bit_or, or_zero_r}
 use Rattle.std.proofs.lemmas.Nat.{and_mask, or_shr, or_mod, pow_pos, pow-add, pow_below, shl-shr}

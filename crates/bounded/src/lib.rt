@@ -1,5 +1,7 @@
 //! Lists and sets of bounded size, held in place: no heap.
 
+#![tactic(auto)]
+
 mod held;
 mod numbers;
 mod ops;

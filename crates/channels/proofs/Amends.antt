@@ -1,5 +1,5 @@
 -- What is held after what is held at one number was amended.
-use Rattle.std.proofs.Common.{◌≡◌, ℕ, ◌<◌, ◌≤◌, Bool, true, false, cond, ◌||◌, eqb, ltb, List, [], ◌∷◌, map, length, get_or, IfSome, Some, None, Option, sym, refl, ap, ◌∙◌, subst, inl, inr, arith}
+use Rattle.std.proofs.Common.{◌≡◌, ℕ, ◌<◌, ◌≤◌, Bool, true, false, cond, ◌||◌, eqb, ltb, List, [], ◌∷◌, length, get_or, IfSome, Some, None, Option, sym, refl, ap, ◌∙◌, subst, inl, inr, arith}
 use Rattle.std.specs.Option.{option_map}
 use Rattle.std.proofs.lemmas.List.{length-map}
 use Rattle.std.proofs.lemmas.Bool.{cases_Bool, cond-true, cond-false, cond_both, lt-ltb, eqb-true, eq-eqb, both_ways}
@@ -19,7 +19,7 @@ use Rattle.refusals.specs.Checks.{First, Passed}
 use Rattle.channels.specs.declared.words.Event.{Event}
 use Rattle.channels.specs.declared.words.State.{State}
 use Rattle.channels.specs.declared.held.Channels.{Channels}
-use Rattle.channels.specs.Held.{channels_of, shall, asked, holding, becomes, expects, event_checks}
+use Rattle.channels.specs.Held.{channels_of, shall, holding, becomes, expects, event_checks}
 
 or_none : (b : Bool) → b ≡ (b || false)
 or_none true = refl

@@ -9,10 +9,9 @@ use crate::words::Channel;
 use bounded::Bounded;
 
 /// At most 16 channels, by rising number; the room has a place more, for one that is asked for.
+#[derive(Clone, Copy)]
 pub struct Channels {
     pub(crate) list: Bounded<Channel, 17>,
     ghost few: { length (items list) ≤ 16 },
     ghost ordered: { rising 0 (numbers (channel_rows (items list))) ≡ true },
 }
-
-impl Copy for Channels {}

@@ -1,5 +1,7 @@
 //! The channels that a session holds, by rising number, and what an event does to one.
 
+#![tactic(auto)]
+
 mod held;
 mod list;
 mod row;

@@ -1,5 +1,7 @@
 //! Compares the search with a second decision, by brute force, on random cases, and prints what it did.
 
+#![tactic(auto)]
+
 mod announced;
 mod asked;
 mod brute;

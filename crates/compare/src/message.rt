@@ -17,11 +17,10 @@ enum Tag {
 const RECORD: usize = 32;
 
 /// A set message under way.
+#[derive(Clone, Copy)]
 pub struct Message {
     octets: Bounded<u8, 2048>,
 }
-
-impl Copy for Message {}
 
 impl Message {
     /// A message that begins, with its sequence number.

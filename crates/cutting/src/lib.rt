@@ -1,5 +1,7 @@
 //! Cuts the input octets of the bench into its pieces: messages, bad records and a short rest.
 
+#![tactic(auto)]
+
 mod front;
 mod piece;
 

@@ -1,5 +1,7 @@
 //! Judges: which capabilities are lawful, and which capability covers which proposal.
 
+#![tactic(auto)]
+
 mod judge;
 mod laws;
 mod own_kind;

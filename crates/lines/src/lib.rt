@@ -1,5 +1,7 @@
 //! The lines that the bench prints, one for each piece of its input.
 
+#![tactic(auto)]
+
 #[cfg(test)]
 mod examples;
 mod line;

@@ -1,5 +1,5 @@
 -- The turns of the loop over the rows, over the octets that the program holds.
-use Rattle.std.proofs.Common.{◌≡◌, ℕ, ◌+◌, ◌<◌, true, false, ◌⊎◌, List, length, sym, ap, ◌∙◌, subst, ⊎_elim, arith}
+use Rattle.std.proofs.Common.{◌≡◌, ℕ, ◌+◌, ◌<◌, true, false, List, length, sym, ap, ◌∙◌, subst, ⊎_elim, arith}
 use Rattle.bounded.specs.Bit.{bit}
 use Rattle.bounded.proofs.Mask.{bit_zero}
 use Rattle.matching.specs.Board.{Blocks}

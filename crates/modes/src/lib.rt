@@ -1,5 +1,7 @@
 //! The mode request: the first mode of a message that a table can carry.
 
+#![tactic(auto)]
+
 mod available;
 mod element;
 mod laws;

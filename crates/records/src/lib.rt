@@ -1,5 +1,7 @@
 //! Records of 32 octets, read where they stand in the host's octets, and the two messages made of them.
 
+#![tactic(auto)]
+
 mod check;
 mod fields;
 mod held;

@@ -1,5 +1,7 @@
 //! Replays an input on a new table: the text that the bench prints of it.
 
+#![tactic(auto)]
+
 mod step;
 mod whole;
 

@@ -1,5 +1,5 @@
 -- What is held at a number after one number was amended.
-use Rattle.std.proofs.Common.{◌≡◌, ℕ, true, eqb, List, [], Option, sym, refl, ap, ◌∙◌}
+use Rattle.std.proofs.Common.{◌≡◌, ℕ, true, eqb, List, Option, sym, refl, ap, ◌∙◌}
 use Rattle.std.proofs.lemmas.Bool.{cond-true, cond-false, eq-eqb, ne_eqb}
 use Rattle.channels.specs.Held.{asked, shall}
 use Rattle.channels.specs.Holdings.{Holding}

@@ -1,5 +1,5 @@
 -- Where channels are carried, fewer of them are.
-use Rattle.std.proofs.Common.{◌≡◌, ℕ, zero, suc, ◌+◌, ◌<◌, ◌≤◌, Bool, true, false, cond, eqb, leb, List, [], ◌∷◌, map, length, get_or, Some, None, Option, sym, refl, ap, ◌∙◌, subst, inl, inr, arith}
+use Rattle.std.proofs.Common.{◌≡◌, ℕ, zero, suc, ◌+◌, ◌<◌, Bool, true, cond, eqb, leb, List, [], ◌∷◌, length, Some, sym, refl, ap, ◌∙◌, subst, inl, inr, arith}
 use Rattle.std.proofs.lemmas.List.{length-map}
 use Rattle.std.proofs.lemmas.Bool.{cases_Bool, cond-true, cond-false, eqb-true, eqb-false, and_parts, cases_lt}
 use Rattle.channels.specs.Holdings.{Holding, proposals}
@@ -7,9 +7,8 @@ use Rattle.judges.specs.declared.words.Capability.{Capability}
 use Rattle.judges.specs.declared.words.Proposal.{Proposal}
 use Rattle.keyed.specs.Keyed.{Numbered, at, rising, numbers}
 use Rattle.keyed.proofs.Lookups.{at_here, at_next, at_below}
-use Rattle.search.specs.Answers.{Stands, CarriedBy}
 use Rattle.search.specs.Carrying.{Carries, usable}
-use Rattle.search.specs.Lists.{At, In}
+use Rattle.search.specs.Lists.{At}
 use Rattle.search.proofs.Bridge.{at_some}
 use Rattle.search.proofs.Covers.{at_one, at_map, at_mapped}
 use Rattle.session.specs.Rules.{Carried}

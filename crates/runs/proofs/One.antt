@@ -1,22 +1,18 @@
 -- The same calls have one history.
-use Rattle.std.proofs.Common.{◌≡◌, ℕ, Bool, true, false, List, [], ◌∷◌, ◌++◌, length, Some, None, Option, sym, refl, ap, ◌∙◌, subst, arith}
-use Rattle.std.proofs.lemmas.Bool.{both_ways}
-use Rattle.channels.specs.Held.{asked}
+use Rattle.std.proofs.Common.{◌≡◌, ℕ, Bool, true, List, [], ◌∷◌, ◌++◌, length, Some, None, Option, sym, refl, ap, ◌∙◌, subst, arith}
 use Rattle.channels.specs.Holdings.{Holding, proposals}
 use Rattle.judges.specs.declared.words.Capability.{Capability}
 use Rattle.judges.specs.declared.words.Proposal.{Proposal}
 use Rattle.keyed.specs.Keyed.{Numbered, at, rising, numbers}
 use Rattle.keyed.proofs.Merged.{same_rows}
-use Rattle.modes.specs.declared.available.Available.{Available}
 use Rattle.modes.proofs.OneMode.{smallest_one, first_one_carried}
-use Rattle.refusals.specs.declared.refusal.Refusal.{Refusal}
 use Rattle.refusals.proofs.Firsts.{first_one, first_fails}
 use Rattle.search.specs.declared.found.NoteRow.{NoteRow}
-use Rattle.session.specs.Calls.{Call, set, ask, accept, decline, close, request, Answer, refused, done, numbered, opened, available, went}
+use Rattle.session.specs.Calls.{Call, set, ask, accept, decline, close, request, Answer, refused, opened, available, went}
 use Rattle.session.specs.Rules.{Situation, checks, Result, Ends, refusal, result, Wrote}
 use Rattle.table.specs.Sets.{Standing, message, Merged}
 use Rattle.table.proofs.Judged.{same_standing, one_after}
-use Rattle.runs.specs.History.{Ended, ended, calls, Holds, is_set, StandsAfter, nothing, merged, stays, HeldAfter, Situated, Reckoned, start, next}
+use Rattle.runs.specs.History.{Ended, ended, calls, is_set, StandsAfter, nothing, merged, stays, HeldAfter, Situated, Reckoned, start, next}
 use Rattle.runs.proofs.After.{concerned_some}
 
 same_option : (o q : Option Holding) → ((x : Holding) → o ≡ Some x → q ≡ Some x) → ((x : Holding) → q ≡ Some x → o ≡ Some x) → o ≡ q

@@ -1,29 +1,24 @@
 -- The law over runs.
-use Rattle.std.proofs.Common.{◌≡◌, ℕ, ◌≤◌, Bool, true, false, ◌⊎◌, List, [], ◌∷◌, ◌++◌, length, Some, None, Ok, Option, sym, refl, ap, ◌∙◌, subst, inl, inr, arith}
-use Rattle.std.proofs.lemmas.List.{length-map}
-use Rattle.std.proofs.lemmas.Bool.{both_ways, cases_Bool}
+use Rattle.std.proofs.Common.{◌≡◌, ℕ, Bool, true, false, List, [], ◌∷◌, length, Some, None, Option, sym, refl, ap, ◌∙◌, subst, inl, inr, arith}
+use Rattle.std.proofs.lemmas.Bool.{both_ways}
 use Rattle.channels.proofs.Amends.{few_held}
-use Rattle.channels.specs.declared.words.Channel.{Channel}
 use Rattle.channels.specs.declared.words.State.TheVariants.{Pending, Established}
-use Rattle.channels.specs.Held.{asked, shall, established, holding, HeldAs, Ranked}
-use Rattle.channels.specs.Holdings.{Holding, channel_row, proposals}
+use Rattle.channels.specs.Held.{shall, established, holding, Ranked}
+use Rattle.channels.specs.Holdings.{Holding, proposals}
 use Rattle.judges.specs.declared.words.Capability.{Capability}
 use Rattle.judges.specs.declared.words.Proposal.{Proposal}
 use Rattle.keyed.specs.Keyed.{Numbered, After, at, rising, numbers}
-use Rattle.refusals.specs.declared.refusal.Refusal.{Refusal}
-use Rattle.refusals.specs.Checks.{Check, Passed}
+use Rattle.refusals.specs.Checks.{Passed}
 use Rattle.refusals.proofs.Firsts.{passed_last}
 use Rattle.search.specs.declared.found.NoteRow.{NoteRow}
-use Rattle.search.specs.declared.seat.Seat.{Seat}
 use Rattle.search.specs.Answers.{Smallest}
-use Rattle.search.specs.Scratch.{scratch_checks}
 use Rattle.session.specs.declared.state.Session.{Session}
-use Rattle.session.specs.Calls.{Call, set, ask, accept, decline, close, request, Answer, refused, done, went}
+use Rattle.session.specs.Calls.{Call, set, ask, accept, decline, close, request, Answer, refused, went}
 use Rattle.session.specs.Rules.{Situation, Carried, checks, narrow_checks, Result, Ends, refusal, result, LeavesThen, Wrote}
 use Rattle.session.specs.Steps.{held, situation, Made, Counts, Ranks, Reads, Did, SeatedAs}
 use Rattle.session.proofs.Carries.{carried_by}
 use Rattle.table.specs.Sets.{Standing, standing, set_checks}
-use Rattle.runs.specs.History.{Ended, ended, calls, IsSet, is_set, StandsAfter, nothing, merged, stays, HeldAfter, Situated, Reckoned, start, next}
+use Rattle.runs.specs.History.{Ended, ended, calls, IsSet, StandsAfter, nothing, merged, stays, HeldAfter, Situated, Reckoned, start, next}
 use Rattle.runs.specs.Law.{Run, made, called, HoldsGood, Law}
 use Rattle.runs.proofs.Fewer.{carried_fewer}
 use Rattle.runs.proofs.One.{result_went, situated_one, held_one, stands_one, history_one, judged}

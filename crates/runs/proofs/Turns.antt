@@ -1,14 +1,14 @@
 -- One call more: what is held and what stands after it.
-use Rattle.std.proofs.Common.{◌≡◌, ℕ, Bool, true, false, List, [], ◌∷◌, Some, None, Option, sym, refl, ap, ◌∙◌, subst, inl, inr, arith}
+use Rattle.std.proofs.Common.{◌≡◌, ℕ, true, false, List, ◌∷◌, Some, None, Option, sym, refl, ap, ◌∙◌, subst, inl, inr, arith}
 use Rattle.std.proofs.lemmas.Bool.{both_ways, cases_eq}
 use Rattle.channels.specs.declared.words.State.TheVariants.{Pending, Established}
 use Rattle.channels.specs.Held.{asked, shall, established, holding}
 use Rattle.channels.specs.Holdings.{Holding}
 use Rattle.judges.specs.declared.words.Proposal.{Proposal}
-use Rattle.keyed.specs.Keyed.{Numbered, After, at, rising, numbers}
+use Rattle.keyed.specs.Keyed.{Numbered, After, at}
 use Rattle.search.specs.declared.found.NoteRow.{NoteRow}
 use Rattle.session.specs.Calls.{Call, set, ask, accept, decline, close, request, Answer, went}
-use Rattle.runs.specs.History.{Ended, ended, Concerns, asking, accepting, declining, closing, Holds, took, accepted, kept, IsSet, is_set, HeldAfter}
+use Rattle.runs.specs.History.{Ended, ended, Concerns, asking, accepting, declining, closing, Holds, took, accepted, kept, HeldAfter}
 use Rattle.runs.proofs.After.{at_amended, at_others}
 
 pub asks_of : {k n : ℕ} {p : Proposal} {note : List NoteRow} {w : List ℕ} → Concerns (ask k p note w) n → n ≡ k

@@ -1,5 +1,5 @@
 -- What makers quote, from how a call ends.
-use Rattle.std.proofs.Common.{◌≡◌, ℕ, zero, suc, ◌<◌, ◌≤◌, Bool, true, false, ◌⊎◌, List, [], ◌∷◌, ◌++◌, length, sym, refl, ap, ◌∙◌, subst, inl, inr, arith}
+use Rattle.std.proofs.Common.{◌≡◌, ℕ, zero, suc, ◌<◌, Bool, true, false, List, [], ◌∷◌, ◌++◌, length, sym, refl, ap, ◌∙◌, subst, inl, inr, arith}
 use Rattle.std.proofs.lemmas.Bool.{both_ways, cases_eq, cases_lt}
 use Rattle.channels.specs.Held.{asked}
 use Rattle.channels.specs.Holdings.{Holding, proposals}
@@ -26,7 +26,7 @@ use Rattle.records.specs.Layout.{Rec}
 use Rattle.table.specs.Message.{entries_in, descriptors_in}
 use Rattle.table.specs.Sets.{Standing, message, Merged, Once, Leaves, set_checks}
 use Rattle.table.proofs.Judged.{one_after}
-use Rattle.runs.specs.History.{Ended, ended, StandsAfter, nothing, merged, stays, Situated, Reckoned, next}
+use Rattle.runs.specs.History.{Ended, ended, StandsAfter, nothing, merged, stays, Reckoned, next}
 use Rattle.runs.specs.Words.{Answered, IsNotAvailable, IsTooNarrow, IsModeUnavailable}
 use Rattle.runs.proofs.After.{concerned_some}
 use Rattle.runs.proofs.One.{result_went, situated_one}

@@ -1,10 +1,8 @@
 -- The law in three sentences that makers quote.
-use Rattle.std.specs.Prelude.{◌≡◌, ℕ, Bool, true, List, [], ◌∷◌, ◌++◌, length, ◌≢◌}
-use Rattle.channels.specs.Held.{asked}
-use Rattle.channels.specs.Holdings.{Holding, proposals}
+use Rattle.std.specs.Prelude.{◌≡◌, ℕ, Bool, List, [], ◌∷◌, ◌++◌, length, ◌≢◌}
+use Rattle.channels.specs.Holdings.{proposals}
 use Rattle.judges.specs.declared.words.Capability.{Capability}
 use Rattle.judges.specs.declared.words.Proposal.{Proposal}
-use Rattle.keyed.specs.Keyed.{Numbered, After}
 use Rattle.modes.specs.Modes.{modes_in}
 use Rattle.records.specs.declared.held.Form.TheVariants.{Modes}
 use Rattle.records.specs.Messages.{message_checks}
@@ -17,7 +15,7 @@ use Rattle.search.specs.Scratch.{scratch_checks}
 use Rattle.session.specs.declared.state.Session.{Session}
 use Rattle.session.specs.Calls.{Call, set, ask, request, Answer, refused}
 use Rattle.session.specs.Rules.{Situation, Concerned, list_checks, ask_checks}
-use Rattle.table.specs.Sets.{Standing, message, Leaves, set_checks}
+use Rattle.table.specs.Sets.{message, Leaves, set_checks}
 use Rattle.runs.specs.History.{Ended, ended, Situated}
 use Rattle.runs.specs.Law.{Run}
 

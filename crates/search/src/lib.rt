@@ -1,5 +1,7 @@
 //! The search: the smallest descriptor of a table that carries rows, or why none does.
 
+#![tactic(auto)]
+
 mod call;
 mod cover;
 mod each;

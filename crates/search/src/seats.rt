@@ -83,7 +83,7 @@ fn seats_of<J: Judge, R: NumberedRow>(
     holders: &[u8],
     rows: &[R],
 ) -> Bounded<Seat, 16>
-    requires holders_len { (length holders.now ≡ length sets.now) × ((length sets.now ≤ 16) × (length rows.now ≤ 16)) }
+    requires sizes { (length holders.now ≡ length sets.now) × ((length sets.now ≤ 16) × (length rows.now ≤ 16)) }
     requires placed { Placed (uses (usable (J.Judge.covers judge.now) (entries_of table.now)) (map members_of sets.now) (map R.Row.asks rows.now)) (length rows.now) (length sets.now) (at holders.now) (length rows.now) }
     ensures { Seats R.NumberedRow.named R.Row.asks (J.Judge.covers judge.now) (entries_of table.now) (map members_of sets.now) rows.now (items result) }
 {
@@ -110,7 +110,7 @@ fn seat_on<J: Judge, R: NumberedRow>(
     covers: &[u64],
     work: &mut [u8],
 ) -> Option<Bounded<Seat, 16>>
-    requires sets_len_bound { (length sets.now ≤ 16) × ((length covers.now ≤ 17) × (64 ≤ length work.old)) }
+    requires sizes { (length sets.now ≤ 16) × ((length covers.now ≤ 17) × (64 ≤ length work.old)) }
     requires covered { Covered (J.Judge.covers judge.now) (entries_of table.now) (map R.Row.asks rows.now) covers.now }
     ensures { MatchOption result (Carries (usable (J.Judge.covers judge.now) (entries_of table.now)) (map members_of sets.now) (map R.Row.asks rows.now) → ⊥) (λ s. Carries (usable (J.Judge.covers judge.now) (entries_of table.now)) (map members_of sets.now) (map R.Row.asks rows.now) × Seats R.NumberedRow.named R.Row.asks (J.Judge.covers judge.now) (entries_of table.now) (map members_of sets.now) rows.now (items s)) }
 {
@@ -134,7 +134,7 @@ pub(crate) fn seat_each<J: Judge, R: NumberedRow>(
     covers: &[u64],
     work: &mut [u8],
 ) -> Option<Seating>
-    requires descriptors_value { (keyed.rising 0 (keyed.numbers (descriptor_rows descriptors.now)) ≡ true) × ((length covers.now ≤ 17) × (64 ≤ length work.old)) }
+    requires order_and_sizes { (keyed.rising 0 (keyed.numbers (descriptor_rows descriptors.now)) ≡ true) × ((length covers.now ≤ 17) × (64 ≤ length work.old)) }
     requires covered { Covered (J.Judge.covers judge.now) (entries_of table.now) (map R.Row.asks rows.now) covers.now }
     ensures { MatchOption result (NoneCarries (J.Judge.covers judge.now) (record { entries = entries_of table.now; descriptors = descriptor_rows descriptors.now }) (map R.Row.asks rows.now)) (λ s. Seated R.NumberedRow.named R.Row.asks (J.Judge.covers judge.now) (record { entries = entries_of table.now; descriptors = descriptor_rows descriptors.now }) rows.now s) }
 {

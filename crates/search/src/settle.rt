@@ -18,8 +18,8 @@ pub(crate) fn arrange(
     holders: &mut [u8],
     seen: &mut [u8],
 ) -> Verdict
-    requires entries_len_bound { (length entries.now ≤ 64) × ((length sets.now ≤ 16) × (length covers.now ≤ 17)) }
-    requires board_len { (length board.old ≡ 2 * length covers.now) × ((length holders.old ≡ length sets.now) × (length seen.old ≡ 2)) }
+    requires sizes { (length entries.now ≤ 64) × ((length sets.now ≤ 16) × (length covers.now ≤ 17)) }
+    requires boards { (length board.old ≡ 2 * length covers.now) × ((length holders.old ≡ length sets.now) × (length seen.old ≡ 2)) }
     ensures { Arranged (meets_at (entry_rows entries.now) (map members_of sets.now) covers.now) (length covers.now) (length sets.now) (at holders.new) result }
 {
     fill(entries, sets, covers, board);

@@ -3,7 +3,7 @@ use Rattle.std.proofs.Common.{◌≡◌, ℕ, ◌+◌, ◌<◌, ◌≤◌, Bool,
 use Rattle.std.proofs.lemmas.List.{length-map}
 use Rattle.std.proofs.lemmas.Bool.{both_ways, cases_eq}
 use Rattle.channels.specs.declared.words.Channel.{Channel}
-use Rattle.channels.specs.Holdings.{Holding, channel_row, channel_rows, proposals}
+use Rattle.channels.specs.Holdings.{Holding, channel_rows, proposals}
 use Rattle.judges.specs.declared.words.Capability.{Capability}
 use Rattle.judges.specs.declared.words.Proposal.{Proposal}
 use Rattle.keyed.specs.Keyed.{Numbered}

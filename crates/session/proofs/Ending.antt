@@ -1,9 +1,9 @@
 -- How calls end: refused, or done.
-use Rattle.std.proofs.Common.{◌≡◌, ℕ, ◌<◌, ◌≤◌, Bool, true, false, eqb, ◌⊎◌, List, [], ◌∷◌, ◌++◌, length, drop, Some, sym, refl, ap, ◌∙◌, subst, inl, inr, arith}
+use Rattle.std.proofs.Common.{◌≡◌, ℕ, ◌<◌, ◌≤◌, Bool, true, false, eqb, List, [], ◌∷◌, ◌++◌, length, drop, Some, sym, refl, ap, ◌∙◌, subst, inl, inr, arith}
 use Rattle.std.proofs.lemmas.List.{length-map}
 use Rattle.std.proofs.lemmas.Bool.{both_ways, cond-true, eq-eqb}
 use Rattle.channels.specs.declared.words.State.TheVariants.{Pending}
-use Rattle.channels.specs.Held.{asked, Held, holding}
+use Rattle.channels.specs.Held.{asked, holding}
 use Rattle.channels.specs.Holdings.{Holding, proposals}
 use Rattle.judges.specs.declared.words.Capability.{Capability}
 use Rattle.judges.specs.declared.words.Proposal.{Proposal}
@@ -22,10 +22,9 @@ use Rattle.table.specs.declared.standing.Table.{Table}
 use Rattle.table.specs.Sets.{Standing, Done, message, set_checks, standing, entries_of}
 use Rattle.table.proofs.Judged.{one_after}
 use Rattle.session.specs.declared.state.Session.{Session}
-use Rattle.session.specs.Calls.{Call, set, ask, Answer, refused, numbered, opened, went, unavailable}
-use Rattle.session.specs.Rules.{Situation, Carried, Supported, list_checks, ask_checks, room_checks, narrow_checks, checks, Result, Ends, refusal, result, LeavesThen, NotesLeft, Wrote}
+use Rattle.session.specs.Calls.{Call, set, ask, Answer, refused, unavailable}
+use Rattle.session.specs.Rules.{Situation, Carried, ask_checks, room_checks, narrow_checks, checks, refusal, NotesLeft, Wrote}
 use Rattle.session.specs.Steps.{situation, Did}
-use Rattle.session.proofs.Carries.{not_carried}
 
 pub never : false ≡ true → ⊥
 never e = both_ways false refl e

@@ -1,9 +1,9 @@
 -- The seats of channels, as the session shows them; and how a mode request ends.
-use Rattle.std.proofs.Common.{◌≡◌, ℕ, Bool, List, [], ◌∷◌, map, length, Some, None, Ok, Err, Option, Result, sym, refl, ap, ◌∙◌, subst, inl, inr, arith, MatchResult}
+use Rattle.std.proofs.Common.{◌≡◌, ℕ, Bool, List, [], ◌∷◌, length, Some, None, Ok, Err, Option, Result, sym, refl, ap, ◌∙◌, subst, inl, inr, arith, MatchResult}
 use Rattle.std.proofs.lemmas.List.{length-map}
 use Rattle.bounded.specs.Items.{items}
 use Rattle.channels.specs.declared.words.Channel.{Channel}
-use Rattle.channels.specs.Holdings.{Holding, channel_row, channel_rows, proposals}
+use Rattle.channels.specs.Holdings.{Holding, channel_row, channel_rows}
 use Rattle.judges.specs.declared.words.Capability.{Capability}
 use Rattle.judges.specs.declared.words.Proposal.{Proposal}
 use Rattle.keyed.specs.Keyed.{Numbered}
@@ -15,12 +15,12 @@ use Rattle.search.specs.declared.seat.Seat.{Seat}
 use Rattle.search.specs.declared.seat.Seating.{Seating}
 use Rattle.search.specs.Answers.{Smallest, NoneCarries, CarriedBy}
 use Rattle.search.specs.Lists.{At}
-use Rattle.search.specs.Seats.{Sits, Seats, Seated, SeatingOf}
+use Rattle.search.specs.Seats.{Sits, Seats, SeatingOf}
 use Rattle.search.proofs.Covers.{at_map}
 use Rattle.table.specs.Sets.{Standing, standing}
 use Rattle.session.specs.declared.state.Session.{Session}
 use Rattle.session.specs.Calls.{request}
-use Rattle.session.specs.Rules.{refusal, result}
+use Rattle.session.specs.Rules.{result}
 use Rattle.session.specs.Steps.{of_request, Did}
 use Rattle.session.proofs.Carries.{same_proposals}
 use Rattle.session.proofs.Ending.{never, refuses}

@@ -4,7 +4,7 @@ use Rattle.channels.specs.declared.held.Channels.{Channels}
 use Rattle.channels.specs.declared.words.Event.{Event}
 use Rattle.channels.specs.declared.words.Event.TheVariants.{Accept, Decline, Close}
 use Rattle.channels.specs.declared.words.State.TheVariants.{Pending}
-use Rattle.channels.specs.Held.{asked, event_checks, expects, Held, holding, Met}
+use Rattle.channels.specs.Held.{event_checks, expects, holding, Met}
 use Rattle.channels.specs.Holdings.{Holding}
 use Rattle.judges.specs.declared.words.Capability.{Capability}
 use Rattle.judges.specs.declared.words.Proposal.{Proposal}
@@ -15,7 +15,7 @@ use Rattle.refusals.specs.Checks.{First, Passed}
 use Rattle.refusals.proofs.Firsts.{first_fails}
 use Rattle.search.specs.declared.found.NoteRow.{NoteRow}
 use Rattle.session.specs.declared.state.Session.{Session}
-use Rattle.session.specs.Calls.{Call, ask, accept, decline, close, Answer, refused, done, opened, went}
+use Rattle.session.specs.Calls.{Call, ask, accept, decline, close, refused, done, opened, went}
 use Rattle.session.specs.Rules.{pending_checks, checks, Ends, refusal, result, Wrote}
 use Rattle.session.specs.Steps.{held, situation, of_close, Settled, Did}
 use Rattle.session.proofs.Ending.{never, refuses, asked_at}

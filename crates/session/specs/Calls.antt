@@ -1,5 +1,5 @@
 -- The calls of a session with their arguments, and what they answer.
-use Rattle.std.specs.Prelude.{ℕ, Bool, true, false, List, [], ◌==◌}
+use Rattle.std.specs.Prelude.{ℕ, Bool, true, false, List, ◌==◌}
 use Rattle.judges.specs.declared.words.Proposal.{Proposal}
 use Rattle.modes.specs.declared.available.Available.{Available}
 use Rattle.refusals.specs.declared.refusal.Refusal.{Refusal}

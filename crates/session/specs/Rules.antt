@@ -1,8 +1,8 @@
 -- What the rules give to a call, on the channels held and the table just before it.
 use Rattle.std.specs.Prelude.{◌≡◌, ℕ, ◌≤◌, Bool, true, false, ◌⊎◌, List, [], ◌∷◌, ◌++◌, length, drop, ◌≢◌, slice_index}
 use Rattle.channels.specs.declared.words.Event.TheVariants.{Accept, Decline, Close}
-use Rattle.channels.specs.declared.words.State.TheVariants.{Pending, Established}
-use Rattle.channels.specs.Held.{asked, shall, becomes, expects, Held, HeldAs, event_checks}
+use Rattle.channels.specs.declared.words.State.TheVariants.{Pending}
+use Rattle.channels.specs.Held.{asked, shall, becomes, Held, HeldAs, event_checks}
 use Rattle.channels.specs.Holdings.{Holding, proposals}
 use Rattle.judges.specs.declared.words.Capability.{Capability}
 use Rattle.judges.specs.declared.words.Proposal.{Proposal}

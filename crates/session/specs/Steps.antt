@@ -4,7 +4,7 @@ use Rattle.bounded.specs.Items.{items}
 use Rattle.channels.specs.declared.words.Channel.{Channel}
 use Rattle.channels.specs.declared.words.Event.{Event}
 use Rattle.channels.specs.Held.{channels_of, shall, becomes, event_checks, Ranked}
-use Rattle.channels.specs.Holdings.{Holding, proposals}
+use Rattle.channels.specs.Holdings.{Holding}
 use Rattle.judges.specs.declared.words.Capability.{Capability}
 use Rattle.judges.specs.declared.words.Proposal.{Proposal}
 use Rattle.keyed.specs.Keyed.{Numbered, After, at}

@@ -1,5 +1,7 @@
 //! A session: the channels that one terminal's table must carry, in one direction, over any judge.
 
+#![tactic(auto)]
+
 mod asking;
 mod calls;
 mod carrying;

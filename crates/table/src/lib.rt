@@ -1,5 +1,7 @@
 //! One terminal's capability table, and what a set message makes of it.
 
+#![tactic(auto)]
+
 mod by_number;
 mod defined;
 mod held;

@@ -99,8 +99,8 @@ pub(crate) fn merged_descriptors(
     named: &NumberSet,
     message: Cursor,
 ) -> Option<Bounded<Descriptor, 16>>
-    requires by_index { (n : ℕ) → holds named.now n ≡ among n (mentioned (descriptors_in (says message))) }
-    requires message_value { narrow (says message) ≡ true }
+    requires marks { (n : ℕ) → holds named.now n ≡ among n (mentioned (descriptors_in (says message))) }
+    requires narrow_sets { narrow (says message) ≡ true }
     ensures { MatchOption result (16 < length (merging (descriptors_in (says message.entry)) (descriptor_rows (items standing.now)))) (λ b. descriptor_rows (items b) ≡ merging (descriptors_in (says message.entry)) (descriptor_rows (items standing.now))) }
 {
     let fill = Descriptor {

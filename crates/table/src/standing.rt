@@ -11,6 +11,7 @@ use super::held::{Descriptor, Entry};
 use bounded::Bounded;
 
 /// A capability table: entries and descriptors by rising number, each as it must be, each member an entry.
+#[derive(Clone, Copy)]
 pub struct Table {
     pub(crate) entries: Bounded<Entry, 64>,
     pub(crate) descriptors: Bounded<Descriptor, 16>,
@@ -20,5 +21,3 @@ pub struct Table {
     ghost shaped: { list_all is_shaped (descriptor_rows (items descriptors)) ≡ true },
     ghost whole: { defined (entry_rows (items entries)) (descriptor_rows (items descriptors)) ≡ true },
 }
-
-impl Copy for Table {}

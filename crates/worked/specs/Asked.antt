@@ -1,5 +1,5 @@
 -- How asks of a session over the standard judge end.
-use Rattle.std.specs.Prelude.{◌≡◌, ℕ, ◌≤◌, List, [], ◌∷◌, length, ◌≢◌}
+use Rattle.std.specs.Prelude.{ℕ, ◌≤◌, List, [], ◌∷◌, length, ◌≢◌}
 use Rattle.channels.specs.declared.words.State.TheVariants.{Established}
 use Rattle.channels.specs.Held.{holding}
 use Rattle.channels.specs.Holdings.{Holding, proposals}

@@ -1,5 +1,7 @@
 //! The worked examples, as one theorem.
 
+#![tactic(auto)]
+
 ghost use Rattle.worked.specs.Examples.{WorkedExamples};
 
 /// The worked examples hold.

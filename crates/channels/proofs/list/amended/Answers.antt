@@ -1,4 +1,4 @@
-use Rattle.std.proofs.Common.{◌≡◌, List, IfSome, Some, None, Option, sym, ap, subst}
+use Rattle.std.proofs.Common.{◌≡◌, IfSome, Option, sym, subst}
 use Rattle.std.specs.Option.{option_map}
 use Rattle.keyed.specs.Keyed.{After}
 use Rattle.bounded.specs.Items.{items}
@@ -14,17 +14,17 @@ returns-in-Some c =
     let named = subst (λ (o : Option Channel). IfSome o (λ d. d.number ≡ c.args.number)) c.in-Some.is c.requires.1.1 in
     record {
       after =
-          subst (λ (o : Option Channel). After (channel_rows xs) (shall c.args.number (option_map (λ d. (channel_row d).value) o)) (channel_rows (items c.put_room.new.list))) (sym c.in-Some.is)
-          (came c.args.number xs (items c.without-left.result) c.requires.1.0 c.without-left.ensures c.in-Some.channel c.put_room.result _ named c.requires.0 c.put_room.ensures.room c.put_room.ensures.list);
-      few = λ h. no_more c.args.number xs (items c.without-left.result) c.requires.1.0 c.without-left.ensures c.put_room.result c.in-Some.channel _ c.put_room.ensures.list h.0 h.1;
+          subst (λ (o : Option Channel). After (channel_rows xs) (shall c.args.number (option_map (λ d. (channel_row d).value) o)) (channel_rows (items c.put-room.new.list))) (sym c.in-Some.is)
+          (came c.args.number xs (items c.without-left.result) c.requires.1.0 c.without-left.ensures c.in-Some.channel c.put-room.result _ named c.requires.0 c.put-room.ensures.room c.put-room.ensures.list);
+      few = λ h. no_more c.args.number xs (items c.without-left.result) c.requires.1.0 c.without-left.ensures c.put-room.result c.in-Some.channel _ c.put-room.ensures.list h.0 h.1;
     }
 
-pub returns-in-default : goal.returns-in-default
-returns-in-default c =
+pub returns-in_default : goal.returns-in_default
+returns-in_default c =
     let xs = items c.args.list.now in
     record {
       after =
-          subst (λ (o : Option Channel). After (channel_rows xs) (shall c.args.number (option_map (λ d. (channel_row d).value) o)) (channel_rows (items c.without-left.result))) (sym c.in-default.is)
+          subst (λ (o : Option Channel). After (channel_rows xs) (shall c.args.number (option_map (λ d. (channel_row d).value) o)) (channel_rows (items c.without-left.result))) (sym c.in_default.is)
           (gone c.args.number xs (items c.without-left.result) c.requires.1.0 c.without-left.ensures);
       few = λ _. fewer_held c.args.number xs (items c.without-left.result) c.requires.1.0 c.without-left.ensures;
     }

@@ -5,11 +5,11 @@ use Rattle.cutting.specs.Cut.{bad_record}
 use Rattle.cutting.proofs.Single.{long, starts_bad, cut_one}
 use Rattle.cutting.proofs.front.cut.Goals as goal
 
-pub returns-then-is-empty : goal.returns-then-is-empty
-returns-then-is-empty c = record { piece = nil_from_length c.args.input.now (search rules); sizes = tt }
+pub returns-then-is_empty : goal.returns-then-is_empty
+returns-then-is_empty c = record { piece = nil_from_length c.args.input.now (search rules); sizes = tt }
 
-pub returns-in-default-record : goal.returns-in-default-record
-returns-in-default-record c =
+pub returns-in_default-record : goal.returns-in_default-record
+returns-in_default-record c =
     let e = c.in-Some.ensures.cases in
     let n = long c.args.input.now c.in-Some.record.now e.0 (omega arith) in
     record {

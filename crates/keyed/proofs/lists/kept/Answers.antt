@@ -11,14 +11,14 @@ loop-x-preserved g c =
     let xs = items c.args.standing.now in
     elim c.if-not-contains.branch [
       | goal.then-not-contains w ↦
-          turn_other key g.row.N named (items c.loop-x.list) xs _ _ c.loop-x.x-index c.x-item.result c.as-slice-x-items.ensures.list c.loop-x-test.true c.x-item.is c.loop-x.invariant.0 c.loop-x.invariant.1
-          _ w.push-room.result (ap named (sym c.number.ensures) ∙ sym w.if-not-contains.ensures) (ap items w.list-is ∙ w.push-room.ensures.list) w.push-room.ensures.room (omega (arith, c.as-slice-x-items.ensures.most))
+          turn_other key g.row.N named (items c.loop-x.list) xs _ _ c.loop-x.x-index c.x-item.result c.as_slice-x-items.ensures.list c.loop-x-test.true c.x-item.is c.loop-x.invariant.0 c.loop-x.invariant.1
+          _ w.push-room.result (ap named (sym c.number.ensures) ∙ sym w.if-not-contains.ensures) (ap items w.list-is ∙ w.push-room.ensures.list) w.push-room.ensures.room (omega (arith, c.as_slice-x-items.ensures.most))
       | goal.else-not-contains w ↦
-          turn_named key g.row.N named (items c.loop-x.list) xs _ _ c.loop-x.x-index c.x-item.result c.as-slice-x-items.ensures.list c.loop-x-test.true c.x-item.is c.loop-x.invariant.0 c.loop-x.invariant.1
+          turn_named key g.row.N named (items c.loop-x.list) xs _ _ c.loop-x.x-index c.x-item.result c.as_slice-x-items.ensures.list c.loop-x-test.true c.x-item.is c.loop-x.invariant.0 c.loop-x.invariant.1
           _ (ap named (sym c.number.ensures) ∙ sym w.if-not-contains.ensures) (ap items w.list-is)
     ]
 
 pub returns : goal.returns
 returns g c =
-    let h : length (items c.args.standing.now) ≤ c.loop-x.x-index = omega (arith, ap length c.as-slice-x-items.ensures.list) in
+    let h : length (items c.args.standing.now) ≤ c.loop-x.x-index = omega (arith, ap length c.as_slice-x-items.ensures.list) in
     sym (keep_end g.T.ByNumber.key (holds c.args.named.now) _ (items c.args.standing.now) c.loop-x.x-index h) ∙ c.loop-x.invariant.0

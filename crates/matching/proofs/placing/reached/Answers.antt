@@ -23,9 +23,9 @@ loop-r-preserved c = λ s.
     let P : ℕ → Bool = λ q. bit c.args.group q && can board q s in
     elim c.if-has.branch [
       | goal.then-has w ↦
-          ap (λ (x : ℕ). bit x s) w.sets-is ∙ bit_of_or c.loop-r.sets w.mask-at-sets.result s
-          ∙ or_swap (bit c.loop-r.sets s) (bit w.mask-at-sets.result s)
-          ∙ ap (λ (x : ℕ). bit x s || bit c.loop-r.sets s) w.mask-at-sets.ensures
+          ap (λ (x : ℕ). bit x s) w.sets-is ∙ bit_of_or c.loop-r.sets w.mask_at-sets.result s
+          ∙ or_swap (bit c.loop-r.sets s) (bit w.mask_at-sets.result s)
+          ∙ ap (λ (x : ℕ). bit x s || bit c.loop-r.sets s) w.mask_at-sets.ensures
           ∙ ap (λ (b : Bool). (b && can board r s) || bit c.loop-r.sets s) w.if-has.ensures
           ∙ ap (λ (b : Bool). P r || b) (c.loop-r.invariant s) ∙ sym (any_more P r)
       | goal.else-has w ↦

@@ -31,8 +31,8 @@ returns-in-Some-2 g c =
     let ms = modes_in (says c.args.message) in
     seen_first covers t ms c.loop-said.place (elements_in rs) (modes_in rs)
     (at_mode covers t ms c.loop-said.place (says c.loop-said.left) rs c.in-Some.said c.in-Some.ensures c.in-Mode.is c.loop-said.invariant) c.in-Some-2.descriptor
-    (answered covers t c.as-slice.result.now _ (elements_in rs) c.in-ok-descriptor.field-0 (Some c.in-Some-2.descriptor)
-    c.as-slice.ensures.list c.elements-after-elements.ensures c.in-Some-2.is c.in-ok-descriptor.ensures.answer.1)
+    (answered covers t c.as_slice.result.now _ (elements_in rs) c.in_ok-descriptor.field-0 (Some c.in-Some-2.descriptor)
+    c.as_slice.ensures.list c.elements_after-elements.ensures c.in-Some-2.is c.in_ok-descriptor.ensures.answer.1)
 
 pub loop-said-preserved-in-Mode : goal.loop-said-preserved-in-Mode
 loop-said-preserved-in-Mode g c =
@@ -42,5 +42,5 @@ loop-said-preserved-in-Mode g c =
     let ms = modes_in (says c.args.message) in
     seen_more covers t ms c.loop-said.place (elements_in rs) (modes_in rs)
     (at_mode covers t ms c.loop-said.place (says c.loop-said.left) rs c.in-Some.said c.in-Some.ensures c.in-Mode.is c.loop-said.invariant)
-    (answered covers t c.as-slice.result.now _ (elements_in rs) c.in-ok-descriptor.field-0 None
-    c.as-slice.ensures.list c.elements-after-elements.ensures c.in-default-2.is c.in-ok-descriptor.ensures.answer.1)
+    (answered covers t c.as_slice.result.now _ (elements_in rs) c.in_ok-descriptor.field-0 None
+    c.as_slice.ensures.list c.elements_after-elements.ensures c.in_default-2.is c.in_ok-descriptor.ensures.answer.1)

@@ -13,9 +13,9 @@ loop-piece-init c =
 pub loop-piece-preserved : goal.loop-piece-preserved
 loop-piece-preserved c =
     turn Step (Printed c.args.input.now) (string_bytes c.loop-piece.out) c.loop-piece.table c.loop-piece.left.now c.loop-piece.invariant
-    (portion c.in-Some.piece) c.in-Some.rest.now c.in-Some.ensures.piece c.perform-line.result _ c.perform-line.ensures _ c.in-ok-push-line.ensures
+    (portion c.in-Some.piece) c.in-Some.rest.now c.in-Some.ensures.piece c.perform-line.result _ c.perform-line.ensures _ c.in_ok-push_line.ensures
 
 pub returns : goal.returns
 returns c =
-    let h = all Step (Printed c.args.input.now) (string_bytes c.loop-piece.out) c.loop-piece.table c.loop-piece.left.now c.loop-piece.invariant c.in-default.ensures.piece in
+    let h = all Step (Printed c.args.input.now) (string_bytes c.loop-piece.out) c.loop-piece.table c.loop-piece.left.now c.loop-piece.invariant c.in_default.ensures.piece in
     record { printed = h; alone = λ out k. one_text c.args.input.now _ out h k }

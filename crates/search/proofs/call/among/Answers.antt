@@ -14,9 +14,9 @@ returns g c =
     let covers = g.J.Judge.covers c.args.judge.now in
     let ps = map g.R.Row.asks c.args.rows.now in
     let masks = c.cover.new.masks in
-    let found = c.search-each.result in
+    let found = c.search_each.result in
     subst (λ (ds : List Stands). Searched (entries_of t) ds masks found) c.descriptors.ensures.list
-    (subst (λ (es : List (Numbered Capability)). Searched es (descriptor_rows c.descriptors.result.now) masks found) c.entries-2.ensures.list c.search-each.ensures)
+    (subst (λ (es : List (Numbered Capability)). Searched es (descriptor_rows c.descriptors.result.now) masks found) c.entries-2.ensures.list c.search_each.ensures)
     covers ps
     (subst (λ (es : List (Numbered Capability)). Covered covers es ps masks) c.entries.ensures.list c.cover.ensures)
     t.ordered t.arranged

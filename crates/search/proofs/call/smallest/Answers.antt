@@ -11,7 +11,7 @@ returns-in-Blocked g c =
     let covers = g.J.Judge.covers c.args.judge.now in
     let t = standing c.args.table.now in
     let ps = map g.R.Row.asks c.args.rows.now in
-    let was = c.in-ok-descriptor.ensures in
+    let was = c.in_ok-descriptor.ensures in
     record {
       scratch = was.scratch;
       answer = (was.answer.0, unanswered covers t ps (items c.in-Blocked.field-0) (subst (λ (f : Found). Outcome covers t ps f) c.in-Blocked.is was.answer.1));

@@ -20,13 +20,13 @@ loop-k-preserved g c =
     let i = c.loop-k.k in
     let x : Entry = get_or es i none in
     let h : i < length es = omega arith in
-    elim c.if-does-cover.branch [
-      | goal.then-does-cover w ↦
+    elim c.if-does_cover.branch [
+      | goal.then-does_cover w ↦
           subst (Masks P (take (i + 1) es)) (sym w.mask-is)
-          (masks_on P es i x h (get_or_default es i none x h) c.loop-k.mask c.loop-k.invariant w.with-place-mask.result (sym w.if-does-cover.ensures) w.with-place-mask.ensures.here w.with-place-mask.ensures.other)
-      | goal.else-does-cover w ↦
+          (masks_on P es i x h (get_or_default es i none x h) c.loop-k.mask c.loop-k.invariant w.with_place-mask.result (sym w.if-does_cover.ensures) w.with_place-mask.ensures.here w.with_place-mask.ensures.other)
+      | goal.else-does_cover w ↦
           subst (Masks P (take (i + 1) es)) (sym w.mask-is)
-          (masks_off P es i x h (get_or_default es i none x h) c.loop-k.mask c.loop-k.invariant (sym w.if-does-cover.ensures))
+          (masks_off P es i x h (get_or_default es i none x h) c.loop-k.mask c.loop-k.invariant (sym w.if-does_cover.ensures))
     ]
 
 pub returns : goal.returns

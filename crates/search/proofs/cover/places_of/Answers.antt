@@ -20,13 +20,13 @@ loop-k-preserved c =
     let i = c.loop-k.k in
     let x : Entry = get_or es i none in
     let h : i < length es = omega arith in
-    elim c.if-is-member.branch [
-      | goal.then-is-member w ↦
+    elim c.if-is_member.branch [
+      | goal.then-is_member w ↦
           subst (Masks P (take (i + 1) es)) (sym w.mask-is)
-          (masks_on P es i x h (get_or_default es i none x h) c.loop-k.mask c.loop-k.invariant w.with-place-mask.result (sym w.if-is-member.ensures) w.with-place-mask.ensures.here w.with-place-mask.ensures.other)
-      | goal.else-is-member w ↦
+          (masks_on P es i x h (get_or_default es i none x h) c.loop-k.mask c.loop-k.invariant w.with_place-mask.result (sym w.if-is_member.ensures) w.with_place-mask.ensures.here w.with_place-mask.ensures.other)
+      | goal.else-is_member w ↦
           subst (Masks P (take (i + 1) es)) (sym w.mask-is)
-          (masks_off P es i x h (get_or_default es i none x h) c.loop-k.mask c.loop-k.invariant (sym w.if-is-member.ensures))
+          (masks_off P es i x h (get_or_default es i none x h) c.loop-k.mask c.loop-k.invariant (sym w.if-is_member.ensures))
     ]
 
 pub returns : goal.returns

@@ -30,7 +30,7 @@ returns-in-Carried c covers ps cov up rise =
       stands = (c.loop-d.d-index, here);
       carries = carried covers t ps up c.args.covers.now cov d
           (subst (λ (n : ℕ). board.Carries (meets_at t.entries d.value c.args.covers.now) (length c.args.covers.now) n) (sym (length-map (items c.d-item.result.sets) members_of))
-          (subst (λ (u : List AlternativeSet). board.Carries (meets_at t.entries (map members_of u) c.args.covers.now) (length c.args.covers.now) (length u)) c.as-slice.ensures.list c.in-Carried.ensures));
+          (subst (λ (u : List AlternativeSet). board.Carries (meets_at t.entries (map members_of u) c.args.covers.now) (length c.args.covers.now) (length u)) c.as_slice.ensures.list c.in-Carried.ensures));
       number = refl;
       least = least covers t ps rise c.loop-d.d-index d here (shown_past covers t ps c.loop-d.d-index (items c.loop-d.note) (c.loop-d.invariant covers ps cov up));
     }
@@ -46,7 +46,7 @@ loop-d-preserved c covers ps cov up =
     paired_more (λ _ d w. Noted covers t ps d w) t.descriptors c.loop-d.d-index note (items c.push-room.new.self) d w here
     (noted covers t ps up c.args.covers.now cov d w refl
     (subst (λ (n : ℕ). BlockedBy (meets_at t.entries d.value c.args.covers.now) (length c.args.covers.now) n w.group w.sets) (sym (length-map (items c.d-item.result.sets) members_of))
-    (subst (λ (u : List AlternativeSet). BlockedBy (meets_at t.entries (map members_of u) c.args.covers.now) (length c.args.covers.now) (length u) w.group w.sets) c.as-slice.ensures.list c.in-Blocked.ensures)))
+    (subst (λ (u : List AlternativeSet). BlockedBy (meets_at t.entries (map members_of u) c.args.covers.now) (length c.args.covers.now) (length u) w.group w.sets) c.as_slice.ensures.list c.in-Blocked.ensures)))
     (c.push-room.ensures.list ∙ cond-true c.push-room.result (note ++ w ∷ []) note (c.push-room.ensures.room ∙ lt-ltb (length note) 16 (omega (arith, inv.long, c.requires.1))))
     inv
 

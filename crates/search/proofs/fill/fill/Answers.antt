@@ -13,6 +13,6 @@ returns c = λ r s l.
     let cover = get_or c.args.covers.now r 0 in
     let P : ℕ → Bool = λ x. not (eqb (bit_and x cover) 0) in
     let Q : List ℕ → Bool = λ S. meeting es S cover in
-    c.write-rows.ensures r s l
+    c.write_rows.ensures r s l
     ∙ pass_same P Q c.resolve.new.places (map members_of c.args.sets.now) 0 s (omega (arith, length-map c.args.sets.now members_of))
     (λ S a. meets es S (get_or c.resolve.new.places s 0) cover (c.resolve.ensures s S a))

@@ -1,1 +1,0 @@
-use Rattle.search.proofs.fill.write_rows.Goals as goal

@@ -22,11 +22,11 @@ returns-in-Some g c =
       smallest = record {
         descriptor = d;
         stands = (c.loop-d.d-index, here);
-        carries = subst (λ (u : List AlternativeSet). Carries (usable covers t.entries) (map members_of u) ps) c.as-slice.ensures.list c.in-Some.ensures.0;
+        carries = subst (λ (u : List AlternativeSet). Carries (usable covers t.entries) (map members_of u) ps) c.as_slice.ensures.list c.in-Some.ensures.0;
         number = refl;
-        least = least covers t ps c.requires.0.0 c.loop-d.d-index d here c.loop-d.invariant;
+        least = least covers t ps c.requires.order_and_sizes.0 c.loop-d.d-index d here c.loop-d.invariant;
       };
-      seats = subst (λ (u : List AlternativeSet). Seats g.R.NumberedRow.named g.R.Row.asks covers t.entries (map members_of u) c.args.rows.now (items c.in-Some.seats)) c.as-slice.ensures.list c.in-Some.ensures.1;
+      seats = subst (λ (u : List AlternativeSet). Seats g.R.NumberedRow.named g.R.Row.asks covers t.entries (map members_of u) c.args.rows.now (items c.in-Some.seats)) c.as_slice.ensures.list c.in-Some.ensures.1;
     }
 
 pub loop-d-preserved : goal.loop-d-preserved
@@ -37,7 +37,7 @@ loop-d-preserved g c =
     let d = descriptor_row c.d-item.result in
     let here : At d t.descriptors c.loop-d.d-index = at_mapped descriptor_row c.args.descriptors.now c.loop-d.d-index c.d-item.result (c.loop-d-test.true, sym c.d-item.is) in
     past_more covers t ps c.loop-d.d-index d here
-    (subst (λ (u : List AlternativeSet). Carries (usable covers t.entries) (map members_of u) ps → ⊥) c.as-slice.ensures.list c.in-default.ensures)
+    (subst (λ (u : List AlternativeSet). Carries (usable covers t.entries) (map members_of u) ps → ⊥) c.as_slice.ensures.list c.in_default.ensures)
     c.loop-d.invariant
 
 pub returns : goal.returns

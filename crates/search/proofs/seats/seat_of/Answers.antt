@@ -11,18 +11,18 @@ use Rattle.search.proofs.Covers.{at_mapped}
 use Rattle.search.proofs.Firsts.{first_none}
 use Rattle.search.proofs.seats.seat_of.Goals as goal
 
-pub returns-in-default : goal.returns-in-default
-returns-in-default g c some use-all = c.in-default.ensures some.0 (omega (arith, some.1, length-map c.args.sets.now members_of, c.requires)) some.2
+pub returns-in_default : goal.returns-in_default
+returns-in_default g c some use-all = c.in_default.ensures some.0 (omega (arith, some.1, length-map c.args.sets.now members_of, c.requires)) some.2
 
-pub returns-in-default-first-covering : goal.returns-in-default-first-covering
-returns-in-default-first-covering g c some use-all =
+pub returns-in_default-first_covering : goal.returns-in_default-first_covering
+returns-in_default-first_covering g c some use-all =
     let held = c.in-Some.ensures in
     let members = members_of c.index-sets-set.result in
     let P : Proposal → ℕ → Bool = λ p m. covering (g.J.Judge.covers c.args.judge.now) p (at (entries_of c.args.table.now) m) in
     let asked = g.R.Row.asks c.args.row.now in
     let here : At members (map members_of c.args.sets.now) c.in-Some.set = at_mapped members_of c.args.sets.now c.in-Some.set c.index-sets-set.result (omega (arith, held.0, c.requires), sym c.index-sets-set.is) in
     let none : first_pass (P asked) members ≡ None =
-    ap (λ (u : List ℕ). first_pass (P asked) u) (ap members_of c.index-sets-set.is ∙ sym c.as-slice.ensures.list) ∙ ap (λ p. first_pass (P p) c.as-slice.result.now) (sym c.proposal-p.ensures) ∙ sym c.in-default-first-covering.ensures in
+    ap (λ (u : List ℕ). first_pass (P asked) u) (ap members_of c.index-sets-set.is ∙ sym c.as_slice.ensures.list) ∙ ap (λ p. first_pass (P p) c.as_slice.result.now) (sym c.proposal-p.ensures) ∙ sym c.in_default-first_covering.ensures in
     both_ways _ (first_none (P asked) members none) (use-all c.in-Some.set members here held.1)
 
 pub returns : goal.returns
@@ -35,7 +35,7 @@ returns g c =
         number = c.number.ensures;
         members = members;
         stands = at_mapped members_of c.args.sets.now c.in-Some.set c.index-sets-set.result (omega (arith, held.0, c.requires), sym c.index-sets-set.is);
-        entry = ap (λ (u : List ℕ). first_pass (P asked) u) (ap members_of c.index-sets-set.is ∙ sym c.as-slice.ensures.list) ∙ ap (λ p. first_pass (P p) c.as-slice.result.now) (sym c.proposal-p.ensures) ∙ sym c.in-Some-first-covering.ensures;
+        entry = ap (λ (u : List ℕ). first_pass (P asked) u) (ap members_of c.index-sets-set.is ∙ sym c.as_slice.ensures.list) ∙ ap (λ p. first_pass (P p) c.as_slice.result.now) (sym c.proposal-p.ensures) ∙ sym c.in-Some-first_covering.ensures;
       },
       held.1,
     )

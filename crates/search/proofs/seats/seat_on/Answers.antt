@@ -12,8 +12,8 @@ use Rattle.search.proofs.Front.{carries_few}
 use Rattle.search.proofs.Seated.{placed_uses, placed_carries, blocked_not}
 use Rattle.search.proofs.seats.seat_on.Goals as goal
 
-pub seats-of-requires : goal.seats-of-requires
-seats-of-requires g c =
+pub seats_of-requires : goal.seats_of-requires
+seats_of-requires g c =
     let covers = g.J.Judge.covers c.args.judge.now in
     let t = c.args.table.now in
     let rows = c.args.rows.now in
@@ -22,12 +22,15 @@ seats-of-requires g c =
     let sets = map members_of c.args.sets.now in
     let m = length c.args.sets.now in
     let wide = length-map c.args.sets.now members_of in
-    let long : length masks ≡ length rows = c.requires.1.long ∙ length-map rows g.R.Row.asks in
+    let long : length masks ≡ length rows = c.requires.covered.long ∙ length-map rows g.R.Row.asks in
     let placed : Placed (meets_at (standing t).entries sets masks) (length masks) m (at c.arrange.new.holders) (length masks) =
     subst (λ (es : List (Numbered Capability)). Placed (meets_at es sets masks) (length masks) m (at c.arrange.new.holders) (length masks)) c.entries.ensures.list c.in-Carried.ensures in
-    let few = carries_few (usable covers (standing t).entries) sets ps (placed_carries covers (standing t) ps t.ordered masks c.requires.1 sets m wide (length rows) (at c.arrange.new.holders) long placed) in
-    let most : length rows ≤ 16 = omega (arith, c.requires.0, length-map rows g.R.Row.asks) in
-    ((search rules, (omega (arith, c.requires.0), most)), placed_uses covers (standing t) ps t.ordered masks c.requires.1 sets m wide (length rows) (at c.arrange.new.holders) long placed)
+    let few = carries_few (usable covers (standing t).entries) sets ps (placed_carries covers (standing t) ps t.ordered masks c.requires.covered sets m wide (length rows) (at c.arrange.new.holders) long placed) in
+    let most : length rows ≤ 16 = omega (arith, c.requires.sizes, length-map rows g.R.Row.asks) in
+    record {
+      sizes = (search rules, (omega (arith, c.requires.sizes), most));
+      placed = placed_uses covers (standing t) ps t.ordered masks c.requires.covered sets m wide (length rows) (at c.arrange.new.holders) long placed;
+    }
 
 pub returns-in-Carried : goal.returns-in-Carried
 returns-in-Carried g c =
@@ -39,15 +42,15 @@ returns-in-Carried g c =
     let sets = map members_of c.args.sets.now in
     let m = length c.args.sets.now in
     let wide = length-map c.args.sets.now members_of in
-    let long : length masks ≡ length rows = c.requires.1.long ∙ length-map rows g.R.Row.asks in
+    let long : length masks ≡ length rows = c.requires.covered.long ∙ length-map rows g.R.Row.asks in
     let placed : Placed (meets_at (standing t).entries sets masks) (length masks) m (at c.arrange.new.holders) (length masks) =
     subst (λ (es : List (Numbered Capability)). Placed (meets_at es sets masks) (length masks) m (at c.arrange.new.holders) (length masks)) c.entries.ensures.list c.in-Carried.ensures in
-    (placed_carries covers (standing t) ps t.ordered masks c.requires.1 sets m wide (length rows) (at c.arrange.new.holders) long placed, c.seats-of.ensures)
+    (placed_carries covers (standing t) ps t.ordered masks c.requires.covered sets m wide (length rows) (at c.arrange.new.holders) long placed, c.seats_of.ensures)
 
 pub returns-in-Blocked : goal.returns-in-Blocked
 returns-in-Blocked g c =
     let masks = c.args.covers.now in
     let t = c.args.table.now in
     let sets = map members_of c.args.sets.now in
-    blocked_not (g.J.Judge.covers c.args.judge.now) (standing t) (map g.R.Row.asks c.args.rows.now) t.ordered masks c.requires.1 sets (length c.args.sets.now) (length-map c.args.sets.now members_of)
+    blocked_not (g.J.Judge.covers c.args.judge.now) (standing t) (map g.R.Row.asks c.args.rows.now) t.ordered masks c.requires.covered sets (length c.args.sets.now) (length-map c.args.sets.now members_of)
     c.in-Blocked.group c.in-Blocked.sets (subst (λ (es : List (Numbered Capability)). BlockedBy (meets_at es sets masks) (length masks) (length c.args.sets.now) c.in-Blocked.group c.in-Blocked.sets) c.entries.ensures.list c.in-Blocked.ensures)

@@ -9,11 +9,11 @@ use Rattle.search.proofs.Pairs.{paired_more}
 use Rattle.search.proofs.Seated.{Held, seats_all, has_seat}
 use Rattle.search.proofs.seats.seats_of.Goals as goal
 
-pub returns-in-default : goal.returns-in-default
-returns-in-default g c =
+pub returns-in_default : goal.returns-in_default
+returns-in_default g c =
     let sets = map members_of c.args.sets.now in
     absurd (has_seat g.R.NumberedRow.named g.R.Row.asks (g.J.Judge.covers c.args.judge.now) (entries_of c.args.table.now) sets (at c.args.holders.now) c.args.rows.now
-    (length c.args.sets.now) (length-map c.args.sets.now members_of) c.requires.1 c.loop-r.r c.index-rows-r.result (c.loop-r-test.true, sym c.index-rows-r.is) c.in-default.ensures)
+    (length c.args.sets.now) (length-map c.args.sets.now members_of) c.requires.placed c.loop-r.r c.index-rows-r.result (c.loop-r-test.true, sym c.index-rows-r.is) c.in_default.ensures)
 
 pub loop-r-preserved : goal.loop-r-preserved
 loop-r-preserved g c =
@@ -23,7 +23,7 @@ loop-r-preserved g c =
     paired_more (Held g.R.NumberedRow.named g.R.Row.asks (g.J.Judge.covers c.args.judge.now) (entries_of c.args.table.now) (map members_of c.args.sets.now) (at c.args.holders.now) c.args.rows.now) c.args.rows.now
     c.loop-r.r seats (items c.push-room.new.self) c.index-rows-r.result w (c.loop-r-test.true, sym c.index-rows-r.is)
     c.in-Some.ensures
-    (c.push-room.ensures.list ∙ cond-true c.push-room.result (seats ++ w ∷ []) seats (c.push-room.ensures.room ∙ lt-ltb (length seats) 16 (omega (arith, inv.long, c.requires.0))))
+    (c.push-room.ensures.list ∙ cond-true c.push-room.result (seats ++ w ∷ []) seats (c.push-room.ensures.room ∙ lt-ltb (length seats) 16 (omega (arith, inv.long, c.requires.sizes))))
     inv
 
 pub returns : goal.returns

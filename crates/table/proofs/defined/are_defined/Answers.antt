@@ -6,19 +6,19 @@ use Rattle.table.specs.Rows.{members_of, entry_rows, descriptor_row}
 use Rattle.table.proofs.All.{all_stops, all_more, all_ends}
 use Rattle.table.proofs.defined.are_defined.Goals as goal
 
-pub returns-then-not-are-sets-defined : goal.returns-then-not-are-sets-defined
-returns-then-not-are-sets-defined c =
+pub returns-then-not-are_sets_defined : goal.returns-then-not-are_sets_defined
+returns-then-not-are_sets_defined c =
     let q = sets_defined (entry_rows c.args.entries.now) in
     let p : Numbered (List (List ℕ)) → Bool = λ d. q d.value in
     sym (all_stops descriptor_row p c.args.descriptors.now c.loop-d.d-index c.d-item.result c.loop-d-test.true c.d-item.is
-    (ap (λ (u : List AlternativeSet). q (map members_of u)) (sym c.as-slice.ensures.list) ∙ sym c.if-not-are-sets-defined.ensures)) ∙ c.loop-d.invariant
+    (ap (λ (u : List AlternativeSet). q (map members_of u)) (sym c.as_slice.ensures.list) ∙ sym c.if-not-are_sets_defined.ensures)) ∙ c.loop-d.invariant
 
 pub loop-d-preserved : goal.loop-d-preserved
 loop-d-preserved c =
     let q = sets_defined (entry_rows c.args.entries.now) in
     let p : Numbered (List (List ℕ)) → Bool = λ d. q d.value in
     all_more descriptor_row p c.args.descriptors.now c.loop-d.d-index c.d-item.result c.loop-d-test.true c.d-item.is
-    (ap (λ (u : List AlternativeSet). q (map members_of u)) (sym c.as-slice.ensures.list) ∙ sym c.if-not-are-sets-defined.ensures) ∙ c.loop-d.invariant
+    (ap (λ (u : List AlternativeSet). q (map members_of u)) (sym c.as_slice.ensures.list) ∙ sym c.if-not-are_sets_defined.ensures) ∙ c.loop-d.invariant
 
 pub returns : goal.returns
 returns c =

@@ -24,12 +24,12 @@ plain ms i h = get_or_default ms i 0 (get_or ms i 0) h
 abbrev same : ℕ → ℕ
 same m = m
 
-pub returns-in-default : goal.returns-in-default
-returns-in-default c =
+pub returns-in_default : goal.returns-in_default
+returns-in_default c =
     let es = c.args.entries.now in
     let ms = c.args.members.now in
     let i = c.loop-m.m-index in
-    sym (all_stops same (λ (m : ℕ). is_some (at (entry_rows es) m)) ms i (get_or ms i 0) c.loop-m-test.true (plain ms i c.loop-m-test.true) (some_found es (get_or ms i 0) None c.in-default.ensures))
+    sym (all_stops same (λ (m : ℕ). is_some (at (entry_rows es) m)) ms i (get_or ms i 0) c.loop-m-test.true (plain ms i c.loop-m-test.true) (some_found es (get_or ms i 0) None c.in_default.ensures))
     ∙ c.loop-m.invariant ∙ ap (all_defined (entry_rows es)) (map-id ms)
 
 pub loop-m-preserved : goal.loop-m-preserved

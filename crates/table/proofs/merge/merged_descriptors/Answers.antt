@@ -44,29 +44,29 @@ module _ (ss rs : List Rec) (said : Said) (n : ℕ) (xs all : List (Numbered Set
 pub loop-said-init : goal.loop-said-init
 loop-said-init c =
     let ms = descriptors_in (says c.args.message) in
-    (ap (added ms) (kept_unnamed descriptor_row ms (holds c.args.named.now) (items c.args.standing.now) (items c.kept-list.result) c.requires.0 c.kept-list.ensures), c.requires.1)
+    (ap (added ms) (kept_unnamed descriptor_row ms (holds c.args.named.now) (items c.args.standing.now) (items c.kept-list.result) c.requires.marks c.kept-list.ensures), c.requires.narrow_sets)
 
 pub returns-then-not-put : goal.returns-then-not-put
 returns-then-not-put c =
-    let d : Descriptor = record { number = c.in-Descriptor.number; sets = c.sets-after-sets.result } in
-    let h : 0 < length (sets_of d) = omega (arith, c.len.ensures.count, length-map (items c.sets-after-sets.result) members_of) in
+    let d : Descriptor = record { number = c.in-Descriptor.number; sets = c.sets_after-sets.result } in
+    let h : 0 < length (sets_of d) = omega (arith, c.len.ensures.count, length-map (items c.sets_after-sets.result) members_of) in
     put_full descriptor_row d (items c.loop-said.list) (descriptors_in (says c.read.new.self)) _
-    (comes _ (says c.read.new.self) c.in-Some.said c.in-Descriptor.number _ _ c.in-Some.ensures c.in-Descriptor.is c.loop-said.invariant d refl c.sets-after-sets.ensures h)
+    (comes _ (says c.read.new.self) c.in-Some.said c.in-Descriptor.number _ _ c.in-Some.ensures c.in-Descriptor.is c.loop-said.invariant d refl c.sets_after-sets.ensures h)
     16 (sym c.if-not-put.ensures.room)
 
 pub loop-said-preserved-else-not-put : goal.loop-said-preserved-else-not-put
 loop-said-preserved-else-not-put c =
-    let d : Descriptor = record { number = c.in-Descriptor.number; sets = c.sets-after-sets.result } in
-    let h : 0 < length (sets_of d) = omega (arith, c.len.ensures.count, length-map (items c.sets-after-sets.result) members_of) in (
+    let d : Descriptor = record { number = c.in-Descriptor.number; sets = c.sets_after-sets.result } in
+    let h : 0 < length (sets_of d) = omega (arith, c.len.ensures.count, length-map (items c.sets_after-sets.result) members_of) in (
       put_more descriptor_row d (items c.loop-said.list) (descriptors_in (says c.read.new.self)) _
-          (comes _ (says c.read.new.self) c.in-Some.said c.in-Descriptor.number _ _ c.in-Some.ensures c.in-Descriptor.is c.loop-said.invariant d refl c.sets-after-sets.ensures h)
+          (comes _ (says c.read.new.self) c.in-Some.said c.in-Descriptor.number _ _ c.in-Some.ensures c.in-Descriptor.is c.loop-said.invariant d refl c.sets_after-sets.ensures h)
           _ c.if-not-put.ensures.list,
       narrows _ (says c.read.new.self) c.in-Some.said c.in-Descriptor.number _ _ c.in-Some.ensures c.in-Descriptor.is c.loop-said.invariant,
     )
 
 pub loop-said-preserved-else-len-gt0 : goal.loop-said-preserved-else-len-gt0
 loop-said-preserved-else-len-gt0 c =
-    let h : length (following (says c.read.new.self)) ≤ 0 = omega (arith, c.len.ensures.count, length-map (items c.sets-after-sets.result) members_of, ap length c.sets-after-sets.ensures) in (
+    let h : length (following (says c.read.new.self)) ≤ 0 = omega (arith, c.len.ensures.count, length-map (items c.sets_after-sets.result) members_of, ap length c.sets_after-sets.ensures) in (
       stays _ (says c.read.new.self) c.in-Some.said c.in-Descriptor.number _ _ c.in-Some.ensures c.in-Descriptor.is c.loop-said.invariant h,
       narrows _ (says c.read.new.self) c.in-Some.said c.in-Descriptor.number _ _ c.in-Some.ensures c.in-Descriptor.is c.loop-said.invariant,
     )

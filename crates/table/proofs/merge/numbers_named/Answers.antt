@@ -13,7 +13,7 @@ pub loop-said-preserved-else-not-insert : goal.loop-said-preserved-else-not-inse
 loop-said-preserved-else-not-insert c =
     let part = c.args.part in
     let all = numbers_in part (says c.args.message) in
-    let e = ap (numbers_in part) c.in-Some.ensures ∙ c.in-Some-number-in.ensures (says c.read.new.self) in
+    let e = ap (numbers_in part) c.in-Some.ensures ∙ c.in-Some-number_in.ensures (says c.read.new.self) in
     let m = subst (λ (ns : List ℕ). Marked (holds c.loop-said.named) ns all) e c.loop-said.invariant in
-    marked_more (holds c.loop-said.named) (holds c.insert.new.self) c.in-Some-number-in.number (c.insert.ensures.held c.if-not-insert.false)
+    marked_more (holds c.loop-said.named) (holds c.insert.new.self) c.in-Some-number_in.number (c.insert.ensures.held c.if-not-insert.false)
     (numbers_in part (says c.read.new.self)) all (not-true _ (sym c.if-not-insert.ensures.fresh)) m

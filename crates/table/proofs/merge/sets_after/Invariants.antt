@@ -1,4 +1,4 @@
-use Rattle.std.proofs.Common.{◌≡◌, ◌+◌, ◌++◌, map, length}
+use Rattle.std.proofs.Common.{◌≡◌, ◌++◌, map, length}
 use Rattle.bounded.specs.Items.{items}
 use Rattle.records.specs.Reads.{says}
 use Rattle.table.specs.Message.{following}

@@ -1,4 +1,4 @@
-use Rattle.std.proofs.Common.{◌≡◌, ℕ, ◌<◌, ◌≤◌, List, length, get_or, Some, None, Option, sym, arith, MatchOption}
+use Rattle.std.proofs.Common.{◌≡◌, ℕ, ◌<◌, ◌≤◌, List, length, get_or, Some, None, Option, arith, MatchOption}
 use Rattle.std.proofs.lemmas.List.{length-map}
 use Rattle.bounded.specs.Items.{items}
 use Rattle.channels.specs.declared.words.Channel.{Channel}

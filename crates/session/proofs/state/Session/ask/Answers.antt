@@ -1,4 +1,4 @@
-use Rattle.std.proofs.Common.{◌≡◌, ℕ, ◌≤◌, ◌++◌, length, refl, ◌∙◌, arith, rules}
+use Rattle.std.proofs.Common.{◌≡◌, ◌≤◌, ◌++◌, length, refl, ◌∙◌, arith, rules}
 use Rattle.refusals.specs.declared.refusal.Refusal.TheVariants.{Scratch}
 use Rattle.modes.proofs.Answered.{left_front}
 use Rattle.session.specs.Calls.{ask}
@@ -24,9 +24,9 @@ returns-then-scratch-lt-ROOM g c =
 pub returns : goal.returns
 returns g c =
     let room : 512 ≤ length c.args.scratch.now = omega arith in
-    let n : length c.ask-in.new.work ≡ 512 = search rules in
+    let n : length c.ask_in.new.work ≡ 512 = search rules in
     record {
-      did = c.ask-in.ensures.did c.args.scratch.now room;
-      handed = c.ask-in.ensures.handed;
-      scratch = c.drop-guard.ensures ∙ left_front c.args.scratch.now c.ask-in.new.work room n;
+      did = c.ask_in.ensures.did c.args.scratch.now room;
+      handed = c.ask_in.ensures.handed;
+      scratch = c.drop-guard.ensures ∙ left_front c.args.scratch.now c.ask_in.new.work room n;
     }

@@ -1,9 +1,9 @@
-use Rattle.std.proofs.Common.{◌≡◌, ℕ, ◌-◌, ◌≤◌, Bool, true, false, List, ◌++◌, length, drop, sym, refl, ap, ◌∙◌, subst, inl, inr, arith}
+use Rattle.std.proofs.Common.{◌≡◌, ℕ, ◌-◌, List, ◌++◌, length, drop, sym, refl, ap, ◌∙◌, subst, inl, inr, arith}
 use Rattle.std.proofs.lemmas.Bool.{cases_Bool}
 use Rattle.bounded.specs.Items.{items}
 use Rattle.channels.specs.Held.{asked, channels_of}
-use Rattle.channels.specs.Holdings.{Holding, channel_rows, proposals}
-use Rattle.keyed.specs.Keyed.{Numbered, After}
+use Rattle.channels.specs.Holdings.{channel_rows, proposals}
+use Rattle.keyed.specs.Keyed.{After}
 use Rattle.refusals.specs.declared.refusal.Refusal.TheVariants.{List as Short-list, NotAvailable}
 use Rattle.search.specs.declared.found.NoteRow.{NoteRow}
 use Rattle.search.specs.Answers.{Smallest, Notes}
@@ -55,7 +55,7 @@ returns-in-Carried g c =
     let d = c.in-Carried.descriptor in
     let ys = channel_rows (items c.concerned-concerned.result) in
     let after = c.concerned-concerned.ensures in
-    let small : Smallest covers (standing s.table) (proposals ys) d = subst (λ (cs : List Channel). Smallest covers (standing s.table) (proposals (channel_rows cs)) d) c.as-slice.ensures.list c.in-Carried.ensures in
+    let small : Smallest covers (standing s.table) (proposals ys) d = subst (λ (cs : List Channel). Smallest covers (standing s.table) (proposals (channel_rows cs)) d) c.as_slice.ensures.list c.in-Carried.ensures in
     let few = carried_few covers s.table ys d small in
     let fresh : After (channels_of s.channels) (asked n p) (channels_of c.hold-held.new.self) =
     elim (cases_Bool c.hold-held.result) [
@@ -64,7 +64,7 @@ returns-in-Carried g c =
     ] in
     record {
       did = λ w room. record {
-        ends = result (ask_passed lawful covers s.number (situation s) n p note w room c.if-note-lt-ROWS.false c.in-default.ensures ys after (carried_by covers (standing s.table) (proposals ys) d small)) (d, concerns (λ zs. Smallest covers (standing s.table) (proposals zs) d) (channels_of s.channels) n p ys after small, refl);
+        ends = result (ask_passed lawful covers s.number (situation s) n p note w room c.if-note-lt-ROWS.false c.in_default.ensures ys after (carried_by covers (standing s.table) (proposals ys) d small)) (d, concerns (λ zs. Smallest covers (standing s.table) (proposals zs) d) (channels_of s.channels) n p ys after small, refl);
         wrote = note_kept covers (situation s) n p _ _ refl refl;
         same = λ e. absurd (never (sym e));
         leaves = λ _. record { channels = fresh; table = refl };
@@ -86,15 +86,15 @@ returns-in-Blocked g c =
     let ys = channel_rows (items c.concerned-concerned.result) in
     let after = c.concerned-concerned.ensures in
     let t = standing s.table in
-    let h : Notes covers t (proposals ys) t.descriptors rows = subst (λ (cs : List Channel). Notes covers t (proposals (channel_rows cs)) t.descriptors rows) c.as-slice.ensures.list c.in-Blocked.ensures in
+    let h : Notes covers t (proposals ys) t.descriptors rows = subst (λ (cs : List Channel). Notes covers t (proposals (channel_rows cs)) t.descriptors rows) c.as_slice.ensures.list c.in-Blocked.ensures in
     let k = c.len-in-Blocked.result in
     let many : k ≡ length t.descriptors = c.len-in-Blocked.ensures.count ∙ h.long in
     let long : c.len.result - 0 ≡ length rows = omega (arith, c.len.ensures.count) in
-    let put : c.copy-from-slice.new.self ≡ rows = c.copy-from-slice.ensures.after ∙ c.as-slice-in-Blocked.ensures.list in
-    let left : c.copy-from-slice.new.self ++ drop (c.len.result - 0) note ≡ rows ++ drop (length rows) note = ap (λ (ws : List NoteRow). ws ++ drop (c.len.result - 0) note) put ∙ ap (λ (i : ℕ). rows ++ drop i note) long in
+    let put : c.copy_from_slice.new.self ≡ rows = c.copy_from_slice.ensures.after ∙ c.as_slice-in-Blocked.ensures.list in
+    let left : c.copy_from_slice.new.self ++ drop (c.len.result - 0) note ≡ rows ++ drop (length rows) note = ap (λ (ws : List NoteRow). ws ++ drop (c.len.result - 0) note) put ∙ ap (λ (i : ℕ). rows ++ drop i note) long in
     record {
       did = λ w room. refuses g.J.Judge.lawful g.J.Judge.covers s (ask n p note w) (NotAvailable k) _
-          (ask_blocked lawful covers s.number (situation s) n p note w room c.if-note-lt-ROWS.false c.in-default.ensures ys after k many (not_carried covers t (proposals ys) rows (asked_some (channels_of s.channels) ys n p after) h))
+          (ask_blocked lawful covers s.number (situation s) n p note w room c.if-note-lt-ROWS.false c.in_default.ensures ys after k many (not_carried covers t (proposals ys) rows (asked_some (channels_of s.channels) ys n p after) h))
           (note_written covers (situation s) n p note rows _ k ys after h left);
       handed = tt;
     }

@@ -1,4 +1,4 @@
-use Rattle.std.proofs.Common.{◌≡◌, ℕ, [], sym, ap, ◌∙◌, subst}
+use Rattle.std.proofs.Common.{ℕ, [], subst}
 use Rattle.session.specs.Calls.{accept, done}
 use Rattle.session.specs.Steps.{Did}
 use Rattle.session.proofs.Settles.{just_asked, accept_fails}

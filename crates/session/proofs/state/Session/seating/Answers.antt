@@ -1,4 +1,4 @@
-use Rattle.std.proofs.Common.{◌≡◌, ℕ, ◌≤◌, length, refl, ◌∙◌, inl, arith, rules}
+use Rattle.std.proofs.Common.{◌≡◌, ◌≤◌, length, refl, ◌∙◌, arith, rules}
 use Rattle.modes.proofs.Answered.{left_front}
 use Rattle.session.specs.Rules.{list_checks}
 use Rattle.session.proofs.Ending.{short}
@@ -10,8 +10,8 @@ returns-then-scratch-lt-ROOM g c = record { seated = (short c.args.scratch.now (
 pub returns : goal.returns
 returns g c =
     let room : 512 ≤ length c.args.scratch.now = omega arith in
-    let n : length c.seating-in.new.work ≡ 512 = search rules in
+    let n : length c.seating_in.new.work ≡ 512 = search rules in
     record {
-      seated = c.seating-in.ensures c.args.scratch.now room;
-      scratch = c.drop-guard.ensures ∙ left_front c.args.scratch.now c.seating-in.new.work room n;
+      seated = c.seating_in.ensures c.args.scratch.now room;
+      scratch = c.drop-guard.ensures ∙ left_front c.args.scratch.now c.seating_in.new.work room n;
     }

@@ -1,4 +1,4 @@
-use Rattle.std.proofs.Common.{◌≡◌, ℕ, ◌≤◌, ◌++◌, length, refl, ◌∙◌, arith, rules}
+use Rattle.std.proofs.Common.{◌≡◌, ◌≤◌, ◌++◌, length, refl, ◌∙◌, arith, rules}
 use Rattle.refusals.specs.declared.refusal.Refusal.TheVariants.{Scratch}
 use Rattle.modes.proofs.Answered.{left_front}
 use Rattle.table.specs.Sets.{standing, set_checks}
@@ -21,8 +21,8 @@ returns-then-scratch-lt-ROOM g c =
 pub returns : goal.returns
 returns g c =
     let room : 512 ≤ length c.args.scratch.now = omega arith in
-    let n : length c.set-in.new.work ≡ 512 = search rules in
+    let n : length c.set_in.new.work ≡ 512 = search rules in
     record {
-      did = c.set-in.ensures c.args.scratch.now room;
-      scratch = c.drop-guard.ensures ∙ left_front c.args.scratch.now c.set-in.new.work room n;
+      did = c.set_in.ensures c.args.scratch.now room;
+      scratch = c.drop-guard.ensures ∙ left_front c.args.scratch.now c.set_in.new.work room n;
     }

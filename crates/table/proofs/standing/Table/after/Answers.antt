@@ -12,7 +12,7 @@ use Rattle.table.specs.declared.held.Descriptor.{Descriptor}
 use Rattle.table.specs.declared.held.Entry.{Entry}
 use Rattle.keyed.specs.Keyed.{Numbered, rising, numbers}
 use Rattle.table.specs.Rows.{entry_row, entry_rows, descriptor_row, descriptor_rows}
-use Rattle.table.specs.Sets.{Merged, Once, standing, message}
+use Rattle.table.specs.Sets.{Merged, Once, standing}
 use Rattle.table.specs.Shape.{is_named, is_shaped, defined}
 use Rattle.table.proofs.Judged.{same_standing, refused_unlawful, refused_twice, refused_entries, refused_descriptors, refused_undefined, passed, merged, late, done, narrows, stay_named, stay_shaped}
 use Rattle.table.proofs.standing.Table.after.Goals as goal
@@ -29,92 +29,84 @@ of_merged es es' ds ds' b p q e =
 over_defined : (es : List (Numbered Capability)) (ds : List (Numbered (List (List ℕ)))) (me : List (Numbered Capability)) (md : List (Numbered (List (List ℕ)))) (b : Bool) → es ≡ me → ds ≡ md → defined es ds ≡ b → defined me md ≡ b
 over_defined es ds me md b p q e = sym (ap (λ (u : List (Numbered Capability)). defined u ds) p ∙ ap (defined me) q) ∙ e
 
-pub returns-then-not-are-lawful : goal.returns-then-not-are-lawful
-returns-then-not-are-lawful g c =
-    let h = c.in-ok-records.ensures in
-    late _ c.args.message.now (standing c.args.self.now) (says c.in-ok-records.records) (ap says_of h.1) h.0 Unlawful
-    (refused_unlawful _ _ _ (sym c.if-not-are-lawful.ensures))
+pub returns-then-not-are_lawful : goal.returns-then-not-are_lawful
+returns-then-not-are_lawful g c =
+    let h = c.in_ok-records.ensures in
+    late _ c.args.message.now (standing c.args.self.now) (says c.in_ok-records.records) (ap says_of h.1) h.0 Unlawful
+    (refused_unlawful _ _ _ (sym c.if-not-are_lawful.ensures))
 
-pub returns-in-default : goal.returns-in-default
-returns-in-default g c =
-    let h = c.in-ok-records.ensures in
-    late _ c.args.message.now (standing c.args.self.now) (says c.in-ok-records.records) (ap says_of h.1) h.0 Twice
-    (refused_twice _ _ _ (sym c.if-not-are-lawful.ensures) (λ o. both_ways _ o.entries c.in-default.ensures))
+pub returns-in_default : goal.returns-in_default
+returns-in_default g c =
+    let h = c.in_ok-records.ensures in
+    late _ c.args.message.now (standing c.args.self.now) (says c.in_ok-records.records) (ap says_of h.1) h.0 Twice
+    (refused_twice _ _ _ (sym c.if-not-are_lawful.ensures) (λ o. both_ways _ o.entries c.in_default.ensures))
 
-pub returns-in-default-numbers-named : goal.returns-in-default-numbers-named
-returns-in-default-numbers-named g c =
-    let h = c.in-ok-records.ensures in
-    late _ c.args.message.now (standing c.args.self.now) (says c.in-ok-records.records) (ap says_of h.1) h.0 Twice
-    (refused_twice _ _ _ (sym c.if-not-are-lawful.ensures) (λ o. both_ways _ o.descriptors c.in-default-numbers-named.ensures))
+pub returns-in_default-numbers_named : goal.returns-in_default-numbers_named
+returns-in_default-numbers_named g c =
+    let h = c.in_ok-records.ensures in
+    late _ c.args.message.now (standing c.args.self.now) (says c.in_ok-records.records) (ap says_of h.1) h.0 Twice
+    (refused_twice _ _ _ (sym c.if-not-are_lawful.ensures) (λ o. both_ways _ o.descriptors c.in_default-numbers_named.ensures))
 
-pub returns-in-default-merged-entries : goal.returns-in-default-merged-entries
-returns-in-default-merged-entries g c =
-    let h = c.in-ok-records.ensures in
+pub returns-in_default-merged_entries : goal.returns-in_default-merged_entries
+returns-in_default-merged_entries g c =
+    let h = c.in_ok-records.ensures in
     let t = c.args.self.now in
-    let once : Once (says c.in-ok-records.records) = record { entries = c.in-Some.ensures.0; descriptors = c.in-Some-numbers-named.ensures.0 } in
-    late _ c.args.message.now (standing t) (says c.in-ok-records.records) (ap says_of h.1) h.0 Entries
-    (refused_entries _ _ _ (sym c.if-not-are-lawful.ensures) once t.ordered t.arranged c.in-default-merged-entries.ensures)
+    let once : Once (says c.in_ok-records.records) = record { entries = c.in-Some.ensures.0; descriptors = c.in-Some-numbers_named.ensures.0 } in
+    late _ c.args.message.now (standing t) (says c.in_ok-records.records) (ap says_of h.1) h.0 Entries
+    (refused_entries _ _ _ (sym c.if-not-are_lawful.ensures) once t.ordered t.arranged c.in_default-merged_entries.ensures)
 
-pub merged-descriptors-requires : goal.merged-descriptors-requires
-merged-descriptors-requires g c =
-    let h = c.in-ok-records.ensures in
-    (c.in-Some-numbers-named.ensures.1, narrows c.args.message.now (rows c.in-ok-records.records) h.1 h.0)
+pub merged_descriptors-requires : goal.merged_descriptors-requires
+merged_descriptors-requires g c =
+    let h = c.in_ok-records.ensures in
+    record { marks = c.in-Some-numbers_named.ensures.1; narrow_sets = narrows c.args.message.now (rows c.in_ok-records.records) h.1 h.0 }
 
-pub returns-in-default-merged-descriptors : goal.returns-in-default-merged-descriptors
-returns-in-default-merged-descriptors g c =
-    let h = c.in-ok-records.ensures in
+pub returns-in_default-merged_descriptors : goal.returns-in_default-merged_descriptors
+returns-in_default-merged_descriptors g c =
+    let h = c.in_ok-records.ensures in
     let t = c.args.self.now in
-    let once : Once (says c.in-ok-records.records) = record { entries = c.in-Some.ensures.0; descriptors = c.in-Some-numbers-named.ensures.0 } in
-    late _ c.args.message.now (standing t) (says c.in-ok-records.records) (ap says_of h.1) h.0 Descriptors
-    (refused_descriptors _ _ _ (sym c.if-not-are-lawful.ensures) once t.ordered t.arranged
-    (fits entry_row c.in-Some-merged-entries.entries _ c.in-Some-merged-entries.ensures) c.in-default-merged-descriptors.ensures)
+    let once : Once (says c.in_ok-records.records) = record { entries = c.in-Some.ensures.0; descriptors = c.in-Some-numbers_named.ensures.0 } in
+    late _ c.args.message.now (standing t) (says c.in_ok-records.records) (ap says_of h.1) h.0 Descriptors
+    (refused_descriptors _ _ _ (sym c.if-not-are_lawful.ensures) once t.ordered t.arranged
+    (fits entry_row c.in-Some-merged_entries.entries _ c.in-Some-merged_entries.ensures) c.in_default-merged_descriptors.ensures)
 
-pub returns-then-not-are-defined : goal.returns-then-not-are-defined
-returns-then-not-are-defined g c =
-    let h = c.in-ok-records.ensures in
+pub returns-then-not-are_defined : goal.returns-then-not-are_defined
+returns-then-not-are_defined g c =
+    let h = c.in_ok-records.ensures in
     let t = c.args.self.now in
-    let once : Once (says c.in-ok-records.records) = record { entries = c.in-Some.ensures.0; descriptors = c.in-Some-numbers-named.ensures.0 } in
-    let e = of_merged (items c.in-Some-merged-entries.entries) _ (items c.in-Some-merged-descriptors.descriptors) _ _ c.as-slice.ensures.list c.as-slice-2.ensures.list c.if-not-are-defined.ensures in
-    late _ c.args.message.now (standing t) (says c.in-ok-records.records) (ap says_of h.1) h.0 Undefined
-    (refused_undefined _ _ _ (sym c.if-not-are-lawful.ensures) once t.ordered t.arranged
-    (fits entry_row c.in-Some-merged-entries.entries _ c.in-Some-merged-entries.ensures) (fits descriptor_row c.in-Some-merged-descriptors.descriptors _ c.in-Some-merged-descriptors.ensures)
-    (over_defined _ _ _ _ _ c.in-Some-merged-entries.ensures c.in-Some-merged-descriptors.ensures e))
+    let once : Once (says c.in_ok-records.records) = record { entries = c.in-Some.ensures.0; descriptors = c.in-Some-numbers_named.ensures.0 } in
+    let e = of_merged (items c.in-Some-merged_entries.entries) _ (items c.in-Some-merged_descriptors.descriptors) _ _ c.as_slice.ensures.list c.as_slice-2.ensures.list c.if-not-are_defined.ensures in
+    late _ c.args.message.now (standing t) (says c.in_ok-records.records) (ap says_of h.1) h.0 Undefined
+    (refused_undefined _ _ _ (sym c.if-not-are_lawful.ensures) once t.ordered t.arranged
+    (fits entry_row c.in-Some-merged_entries.entries _ c.in-Some-merged_entries.ensures) (fits descriptor_row c.in-Some-merged_descriptors.descriptors _ c.in-Some-merged_descriptors.ensures)
+    (over_defined _ _ _ _ _ c.in-Some-merged_entries.ensures c.in-Some-merged_descriptors.ensures e))
 
-pub invariant-of-result : goal.invariant-of-result
-invariant-of-result g c =
-    let h = c.in-ok-records.ensures in
+pub invariant_of-result : goal.invariant_of-result
+invariant_of-result g c =
+    let h = c.in_ok-records.ensures in
     let t = c.args.self.now in
-    let rs = says c.in-ok-records.records in
-    let once : Once rs = record { entries = c.in-Some.ensures.0; descriptors = c.in-Some-numbers-named.ensures.0 } in
-    let m = merged (g.J.Judge.lawful c.args.judge.now) rs (standing t) (sym c.if-not-are-lawful.ensures) once t.ordered t.arranged in
-    let es = c.in-Some-merged-entries.ensures in
-    let ds = c.in-Some-merged-descriptors.ensures in (
-      ap (λ (u : List (Numbered Capability)). rising 0 (numbers u)) es ∙ m.entries.order,
-      (
-        ap (λ (u : List (Numbered (List (List ℕ)))). rising 0 (numbers u)) ds ∙ m.descriptors.order,
-        (
-          ap (list_all is_named) es ∙ stay_named c.args.message.now (rows c.in-ok-records.records) h.1 h.0 _ t.named,
-          (
-            ap (list_all is_shaped) ds ∙ stay_shaped c.args.message.now (rows c.in-ok-records.records) h.1 h.0 _ t.shaped,
-            (
-              of_merged (items c.in-Some-merged-entries.entries) _ (items c.in-Some-merged-descriptors.descriptors) _ _ c.as-slice.ensures.list c.as-slice-2.ensures.list c.if-not-are-defined.ensures,
-              tt,
-            ),
-          ),
-        ),
-      ),
-    )
+    let rs = says c.in_ok-records.records in
+    let once : Once rs = record { entries = c.in-Some.ensures.0; descriptors = c.in-Some-numbers_named.ensures.0 } in
+    let m = merged (g.J.Judge.lawful c.args.judge.now) rs (standing t) (sym c.if-not-are_lawful.ensures) once t.ordered t.arranged in
+    let es = c.in-Some-merged_entries.ensures in
+    let ds = c.in-Some-merged_descriptors.ensures in
+    record {
+      ordered = ap (λ (u : List (Numbered Capability)). rising 0 (numbers u)) es ∙ m.entries.order;
+      arranged = ap (λ (u : List (Numbered (List (List ℕ)))). rising 0 (numbers u)) ds ∙ m.descriptors.order;
+      named = ap (list_all is_named) es ∙ stay_named c.args.message.now (rows c.in_ok-records.records) h.1 h.0 _ t.named;
+      shaped = ap (list_all is_shaped) ds ∙ stay_shaped c.args.message.now (rows c.in_ok-records.records) h.1 h.0 _ t.shaped;
+      whole = of_merged (items c.in-Some-merged_entries.entries) _ (items c.in-Some-merged_descriptors.descriptors) _ _ c.as_slice.ensures.list c.as_slice-2.ensures.list c.if-not-are_defined.ensures;
+    }
 
 pub returns : goal.returns
 returns g c =
-    let h = c.in-ok-records.ensures in
+    let h = c.in_ok-records.ensures in
     let t = c.args.self.now in
-    let rs = says c.in-ok-records.records in
-    let once : Once rs = record { entries = c.in-Some.ensures.0; descriptors = c.in-Some-numbers-named.ensures.0 } in
-    let lawfully = sym c.if-not-are-lawful.ensures in
-    let e = of_merged (items c.in-Some-merged-entries.entries) _ (items c.in-Some-merged-descriptors.descriptors) _ _ c.as-slice.ensures.list c.as-slice-2.ensures.list c.if-not-are-defined.ensures in
+    let rs = says c.in_ok-records.records in
+    let once : Once rs = record { entries = c.in-Some.ensures.0; descriptors = c.in-Some-numbers_named.ensures.0 } in
+    let lawfully = sym c.if-not-are_lawful.ensures in
+    let e = of_merged (items c.in-Some-merged_entries.entries) _ (items c.in-Some-merged_descriptors.descriptors) _ _ c.as_slice.ensures.list c.as_slice-2.ensures.list c.if-not-are_defined.ensures in
     done _ c.args.message.now (standing t) rs (ap says_of h.1) h.0 _
     (passed _ rs (standing t) lawfully once t.ordered t.arranged
-    (fits entry_row c.in-Some-merged-entries.entries _ c.in-Some-merged-entries.ensures) (fits descriptor_row c.in-Some-merged-descriptors.descriptors _ c.in-Some-merged-descriptors.ensures)
-    (over_defined _ _ _ _ _ c.in-Some-merged-entries.ensures c.in-Some-merged-descriptors.ensures e))
-    (subst (Merged (standing t) rs) (sym (same_standing _ _ c.in-Some-merged-entries.ensures c.in-Some-merged-descriptors.ensures)) (merged (g.J.Judge.lawful c.args.judge.now) rs (standing t) lawfully once t.ordered t.arranged))
+    (fits entry_row c.in-Some-merged_entries.entries _ c.in-Some-merged_entries.ensures) (fits descriptor_row c.in-Some-merged_descriptors.descriptors _ c.in-Some-merged_descriptors.ensures)
+    (over_defined _ _ _ _ _ c.in-Some-merged_entries.ensures c.in-Some-merged_descriptors.ensures e))
+    (subst (Merged (standing t) rs) (sym (same_standing _ _ c.in-Some-merged_entries.ensures c.in-Some-merged_descriptors.ensures)) (merged (g.J.Judge.lawful c.args.judge.now) rs (standing t) lawfully once t.ordered t.arranged))

@@ -13,8 +13,8 @@ found : (slice es : List Entry) (n : ℕ) (o : Option Entry) → slice ≡ es �
 found slice es n o s e =
     ap (option_map (λ (e : Entry). e.capability)) (e ∙ ap (λ (u : List Entry). find_in (λ e. e.number) u n) s) ∙ sym (found_at entry_row es n)
 
-pub returns-in-default : goal.returns-in-default
-returns-in-default c = found _ (items c.args.self.now.entries) c.args.number _ c.as-slice.ensures.list c.in-default.ensures
+pub returns-in_default : goal.returns-in_default
+returns-in_default c = found _ (items c.args.self.now.entries) c.args.number _ c.as_slice.ensures.list c.in_default.ensures
 
 pub returns : goal.returns
-returns c = found _ (items c.args.self.now.entries) c.args.number _ c.as-slice.ensures.list c.in-Some.ensures
+returns c = found _ (items c.args.self.now.entries) c.args.number _ c.as_slice.ensures.list c.in-Some.ensures
