@@ -10,7 +10,7 @@ use Rattle.judges.specs.declared.words.Proposal.{Proposal}
 use Rattle.keyed.specs.Keyed.{Numbered, After, Word, silent, said, afterwards, at}
 use Rattle.keyed.proofs.Merged.{after_one}
 use Rattle.refusals.specs.declared.refusal.Refusal.{Refusal}
-use Rattle.refusals.specs.declared.refusal.Refusal.TheVariants.{Scratch, List as Short-list, TooNarrow, NotAvailable}
+use Rattle.refusals.specs.declared.refusal.Refusal.TheVariants.{Scratch, List as ShortList, TooNarrow, NotAvailable}
 use Rattle.refusals.specs.Checks.{Check, First, Passed}
 use Rattle.refusals.proofs.Firsts.{first_early, first_later, passed_both}
 use Rattle.search.specs.declared.found.NoteRow.{NoteRow}
@@ -82,7 +82,7 @@ module _ (lawful : Capability → Bool) (covers : Capability → Proposal → Bo
 
   -- an ask: refused before its last check, not available, or done
   module _ (n : ℕ) (p : Proposal) (note : List NoteRow) (w : List ℕ) (room : 512 ≤ length w) where
-    pub ask_list : length note < 16 → First (checks lawful covers own s (ask n p note w)) Short-list
+    pub ask_list : length note < 16 → First (checks lawful covers own s (ask n p note w)) ShortList
     ask_list l = inr (room, inl (refl, λ h. omega arith))
 
     module _ (rows : 16 ≤ length note) where

@@ -11,7 +11,7 @@ use Rattle.modes.specs.declared.available.Available.{Available}
 use Rattle.modes.specs.Modes.{modes_in}
 use Rattle.modes.specs.Requests.{FirstCarried, mode_checks}
 use Rattle.refusals.specs.declared.refusal.Refusal.{Refusal}
-use Rattle.refusals.specs.declared.refusal.Refusal.TheVariants.{List as Short-list, TooNarrow, Zero, InUse, NotSupported, NotAvailable, Unknown, WrongState}
+use Rattle.refusals.specs.declared.refusal.Refusal.TheVariants.{List as ShortList, TooNarrow, Zero, InUse, NotSupported, NotAvailable, Unknown, WrongState}
 use Rattle.refusals.specs.Checks.{Check, check, First, Passed}
 use Rattle.search.specs.declared.found.NoteRow.{NoteRow}
 use Rattle.search.specs.Answers.{Stands, CarriedBy, Smallest, Notes}
@@ -45,7 +45,7 @@ module _ (covers : Capability → Proposal → Bool) where
 
 -- the note of an ask, and the list of a seating, has 16 rows or more
 abbrev pub list_checks : {X : Type 0} → List X → List Check
-list_checks rows = check Short-list (16 ≤ length rows) ∷ []
+list_checks rows = check ShortList (16 ≤ length rows) ∷ []
 
 -- a pending open is of this session, and its channel is held; the channel is pending
 abbrev pub pending_checks : ℕ → List (Numbered Holding) → ℕ → ℕ → List Check

@@ -4,7 +4,7 @@ use Rattle.bounded.specs.Items.{items}
 use Rattle.channels.specs.Held.{asked, channels_of}
 use Rattle.channels.specs.Holdings.{channel_rows, proposals}
 use Rattle.keyed.specs.Keyed.{After}
-use Rattle.refusals.specs.declared.refusal.Refusal.TheVariants.{List as Short-list, NotAvailable}
+use Rattle.refusals.specs.declared.refusal.Refusal.TheVariants.{List as ShortList, NotAvailable}
 use Rattle.search.specs.declared.found.NoteRow.{NoteRow}
 use Rattle.search.specs.Answers.{Smallest, Notes}
 use Rattle.table.specs.Sets.{standing}
@@ -25,7 +25,7 @@ returns-then-note-lt-ROWS g c =
     let p = c.args.proposal in
     let note = c.args.note.now in
     record {
-      did = λ w room. refuses g.J.Judge.lawful g.J.Judge.covers s (ask n p note w) Short-list _ (ask_list lawful covers s.number (situation s) n p note w room c.if-note-lt-ROWS.true) (note_kept covers (situation s) n p _ _ refl refl);
+      did = λ w room. refuses g.J.Judge.lawful g.J.Judge.covers s (ask n p note w) ShortList _ (ask_list lawful covers s.number (situation s) n p note w room c.if-note-lt-ROWS.true) (note_kept covers (situation s) n p _ _ refl refl);
       handed = tt;
     }
 
