@@ -19,7 +19,7 @@ pub fn not_available<J: Judge>(_judge: &J) -> u8
     0
 }
 
-/// A set is refused as too narrow exactly when no descriptor of the table after it carries the channels held.
+/// A set is refused as too narrow exactly when channels are held and no descriptor of the table after it carries them.
 pub fn too_narrow<J: Judge>(_judge: &J) -> u8
     ensures { IsTooNarrow J.Judge.lawful J.Judge.covers }
 {
