@@ -6,16 +6,12 @@ usage: python3 tools/keep_source_names.py      once, at the top, after tools/res
 
 import os
 import re
+import sys
+
+sys.dont_write_bytecode = True
+from respell import files
 
 FIXED = {"from-residual": "from_residual", "in-default": "in_default", "in-ok": "in_ok", "in-err": "in_err", "invariant-of": "invariant_of", "overflow-cast": "overflow_cast"}
-
-
-def files(ending):
-    for folder, dirs, names in os.walk("crates"):
-        dirs[:] = sorted(d for d in dirs if d != "out")
-        for name in sorted(names):
-            if name.endswith(ending):
-                yield os.path.join(folder, name)
 
 
 def main():
