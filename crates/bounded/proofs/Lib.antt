@@ -1,4 +1,5 @@
-pub mod Shift
+pub mod Edits
 pub mod Most
 pub mod Mask
 pub mod Members
+pub mod Retained

@@ -1,49 +1,28 @@
 -- Masks: what the program's `(x >> s) & 1 == 1` and `x | (1 << s)` say of the bits.
-use Rattle.std.proofs.Common.{◌≡◌, ℕ, ◌+◌, ◌-◌, ◌/◌, ◌%◌, ◌^◌, ◌<◌, ◌≤◌, true, false, eqb, ap, ◌∙◌, ⊎_elim, mod-lt, arith}
-use native.Mathlib.Nat.{div_self, div-eq_of_lt, zero-div, mul-mod_left}
-use lib.Bits.{bit_and, bit_or, or_zero_r}
-use Rattle.std.proofs.lemmas.Nat.{and_mask, or_shr, or_mod, pow_pos, pow-add, pow_below, shl-shr}
-use Rattle.std.proofs.lemmas.Bool.{cases_eq, cases_lt}
+use Rattle.std.proofs.Common.{◌≡◌, ℕ, ◌/◌, ◌%◌, ◌^◌, ◌<◌, max, true, false, eqb, ap, ◌∙◌, arith}
+use lib.Bits.{bit_and}
+use Rattle.std.specs.Int.RustNames.{bit_or}
+use Rattle.std.proofs.lemmas.Nat.Bits.{shr_and_one, bit_at_or, bit_at-pow_same, bit_at-pow_other, bit_at-zero, bit_at-lt}
 use Rattle.bounded.specs.Bit.{bit}
 
--- bit t of 2 ^ s
-one_here : (s : ℕ) → 2 ^ s / 2 ^ s % 2 ≡ 1
-one_here s = ap (λ x. x % 2) (div_self (pow_pos s))
+max_one : (z : ℕ) → z < 2 → max z 1 ≡ 1
+max_one z l = omega arith
 
-one_other : (s t : ℕ) → (t ≡ s → ⊥) → 2 ^ s / 2 ^ t % 2 ≡ 0
-one_other s t ne =
-    ⊎_elim
-    (λ (l : s < t). ap (λ x. x % 2) (div-eq_of_lt (pow_below s t l)))
-    (λ (l : t ≤ s).
-    let d : ℕ = s - (t + 1) in
-    let e : s ≡ (d + 1) + t = omega arith in
-    ap (λ x. 2 ^ x / 2 ^ t % 2) e
-    ∙ ap (λ x. x / 2 ^ t % 2) (pow-add 2 (d + 1) t)
-    ∙ ap (λ x. x % 2) (shl-shr (2 ^ (d + 1)) t)
-    ∙ ap (λ x. x % 2) (pow-add 2 d 1)
-    ∙ mul-mod_left (2 ^ d) 2)
-    (cases_lt s t)
-
-or_bit : (x y t : ℕ) → bit_or x y / 2 ^ t % 2 ≡ bit_or (x / 2 ^ t % 2) (y / 2 ^ t % 2)
-or_bit x y t = ap (λ z. z % 2) (or_shr x y t) ∙ or_mod (x / 2 ^ t) (y / 2 ^ t) 1
-
-or_one : (z : ℕ) → z < 2 → bit_or z 1 ≡ 1
-or_one z l = ⊎_elim (λ (e : z ≡ 0). ap (λ x. bit_or x 1) e) (λ (ne : z ≡ 0 → ⊥). let e : z ≡ 1 = omega arith in ap (λ x. bit_or x 1) e) (cases_eq z 0)
+max_none : (z : ℕ) → max z 0 ≡ z
+max_none z = omega arith
 
 pub test_is : (x s : ℕ) → eqb (bit_and (x / 2 ^ s) 1) 1 ≡ bit x s
 unfolding bit
-test_is x s = ap (λ z. eqb z 1) (and_mask (x / 2 ^ s) 1)
+test_is x s = ap (λ z. eqb z 1) (shr_and_one x s)
 
 pub set_here : (x s : ℕ) → bit (bit_or x (2 ^ s)) s ≡ true
 unfolding bit
-set_here x s =
-    ap (λ z. eqb z 1) (or_bit x (2 ^ s) s ∙ ap (λ z. bit_or (x / 2 ^ s % 2) z) (one_here s) ∙ or_one (x / 2 ^ s % 2) (mod-lt (x / 2 ^ s) (omega arith)))
+set_here x s = ap (λ z. eqb z 1) (bit_at_or x (2 ^ s) s ∙ ap (max (x / 2 ^ s % 2)) (bit_at-pow_same s) ∙ max_one (x / 2 ^ s % 2) (bit_at-lt x s))
 
 pub set_other : (x s t : ℕ) → (t ≡ s → ⊥) → bit (bit_or x (2 ^ s)) t ≡ bit x t
 unfolding bit
-set_other x s t ne =
-    ap (λ z. eqb z 1) (or_bit x (2 ^ s) t ∙ ap (λ z. bit_or (x / 2 ^ t % 2) z) (one_other s t ne) ∙ or_zero_r (x / 2 ^ t % 2))
+set_other x s t ne = ap (λ z. eqb z 1) (bit_at_or x (2 ^ s) t ∙ ap (max (x / 2 ^ t % 2)) (bit_at-pow_other s t ne) ∙ max_none (x / 2 ^ t % 2))
 
 pub bit_zero : (s : ℕ) → bit 0 s ≡ false
 unfolding bit
-bit_zero s = ap (λ z. eqb (z % 2) 1) (zero-div (2 ^ s))
+bit_zero s = ap (λ z. eqb z 1) (bit_at-zero s)

@@ -4,19 +4,15 @@ ghost use Rattle.std.specs.Prelude.{◌≡◌, ◌≤◌, length, ⊤};
 
 use std::alloc::AllocError;
 
-/// The room of a list. A struct of its own, since an array beside a ghost field is not lent.
-#[derive(Clone, Copy)]
-pub struct Cells<T, const N: usize> {
-    pub(crate) at: [T; N],
-}
-
 /// A list of at most N values, held in place.
+#[derive(Copy)]
 pub struct Bounded<T, const N: usize> {
-    pub(crate) cells: Cells<T, N>,
+    pub(crate) at: [T; N],
     pub(crate) len: usize,
-    ghost ok: { (length cells.at ≡ N) × (len ≤ N) },
+    ghost ok: { (length at ≡ N) × (len ≤ N) },
 }
 
+// By hand, since `Clone` is not derived for a generic struct with a ghost field.
 impl<T: Copy, const N: usize> Clone for Bounded<T, N> {
     ghost is_clone = { λ x y. y ≡ x };
 
@@ -27,7 +23,9 @@ impl<T: Copy, const N: usize> Clone for Bounded<T, N> {
     }
 }
 
-impl<T: Copy, const N: usize> Copy for Bounded<T, N> {}
+/// There was no room for one more.
+#[derive(Clone, Copy, PartialEq, Eq, Debug)]
+pub struct NoRoom;
 
 /// A set of 16-bit numbers: a bit for each.
 #[derive(Clone, Copy)]

@@ -6,4 +6,4 @@ mod held;
 mod numbers;
 mod ops;
 
-pub use held::{Bounded, NumberSet};
+pub use held::{Bounded, NoRoom, NumberSet};

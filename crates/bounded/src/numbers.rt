@@ -5,6 +5,14 @@ ghost use Rattle.bounded.specs.Numbers.{holds};
 
 use super::held::NumberSet;
 
+impl Default for NumberSet {
+    ghost is_default = { λ set. (n : ℕ) → holds set n ≡ false };
+
+    fn default() -> NumberSet {
+        NumberSet::new()
+    }
+}
+
 impl NumberSet {
     pub fn new() -> NumberSet
         ensures { (n : ℕ) → holds result n ≡ false }
@@ -12,7 +20,7 @@ impl NumberSet {
         NumberSet { words: [0; 1024] }
     }
 
-    /// Puts a number in: false, and nothing changes, where it is in already.
+    /// Puts a number in: false, and nothing changes, where it is in already, as std's sets answer.
     pub fn insert(&mut self, number: u16) -> bool
         ensures fresh { result ≡ not (holds self.old number) }
         ensures same { result ≡ false → self.new ≡ self.old }
@@ -27,6 +35,7 @@ impl NumberSet {
         true
     }
 
+    #[tactic(auto, using(crate::proofs::Mask::test_is), unfolding(crate::specs::Numbers::holds))]
     pub fn contains(&self, number: u16) -> bool
         ensures { result ≡ holds self.now number }
     {

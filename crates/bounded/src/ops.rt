@@ -1,44 +1,40 @@
 //! The operations of a bounded list.
 
-ghost use Rattle.std.specs.Prelude.{◌≡◌, ◌+◌, ◌-◌, ◌<◌, ◌≤◌, true, false, ◌&&◌, [], ◌∷◌, ◌++◌, length, take, if◌then◌else◌, MatchOption, nat_le, nat_lt, slice_index_or, slice_set};
+#![tactic(auto, using(crate::proofs::Most::items_length), unfolding(crate::specs::Items::items))]
+
+ghost use Rattle.std.specs.Prelude.{◌≡◌, ◌+◌, ◌<◌, ◌≤◌, ◌↔◌, ◌==◌, [], ◌∷◌, ◌++◌, length, IsOk, OnOk, OnErr, IfNone, slice_get, slice_set, insert, remove};
+ghost use Rattle.std.specs.Fn.{CalledAt};
+ghost use Rattle.std.specs.List.Retain.{IsFiltered};
 ghost use Rattle.bounded.specs.Items.{items};
-ghost use Rattle.std.specs.List.{insert, remove};
 
-use super::held::{Bounded, Cells};
+use super::held::{Bounded, NoRoom};
+use std::ops::DerefSlice;
 
-impl<T: Copy, const N: usize> Cells<T, N> {
-    // Takes out the value at i of the first `end`.
-    fn close(&mut self, i: usize, end: usize)
-        requires { (i < end) × ((end ≤ N) × (length self.old.at ≡ N)) }
-        ensures len { length self.new.at ≡ length self.old.at }
-        ensures list { take (end - 1) self.new.at ≡ remove (take end self.old.at) i }
-    {
-        for k in i + 1..end {
-            self.at[k - 1] = self.at[k];
-        }
+impl<T: Copy + Default, const N: usize> Default for Bounded<T, N> {
+    ghost is_default = { λ list. items list ≡ [] };
+
+    fn default() -> Bounded<T, N> {
+        Bounded::new(T::default())
     }
+}
 
-    // Puts x before the value at i of the first `end`.
-    fn open(&mut self, i: usize, end: usize, x: T)
-        requires { (i ≤ end) × ((end < N) × (length self.old.at ≡ N)) }
-        ensures len { length self.new.at ≡ length self.old.at }
-        ensures list { take (end + 1) self.new.at ≡ insert (take end self.old.at) i x }
-    {
-        let mut carry = x;
-        for k in i..end + 1 {
-            let next = self.at[k];
-            self.at[k] = carry;
-            carry = next;
-        }
+impl<T: Copy, const N: usize> DerefSlice for Bounded<T, N> {
+    type Elem = T;
+
+    ghost deref_gives = { λ list xs. (xs ≡ items list) × (length xs ≤ N) };
+
+    fn deref(&self) -> &[T] {
+        self.as_slice()
     }
 }
 
 impl<T: Copy, const N: usize> Bounded<T, N> {
+    /// An empty list: `fill` stands in the places that hold no item.
     pub fn new(fill: T) -> Bounded<T, N>
         ensures { items result ≡ [] }
     {
         Bounded {
-            cells: Cells { at: [fill; N] },
+            at: [fill; N],
             len: 0,
         }
     }
@@ -50,76 +46,100 @@ impl<T: Copy, const N: usize> Bounded<T, N> {
         self.len
     }
 
-    pub fn push(&mut self, x: T) -> bool
-        ensures list { items self.new ≡ (if result then items self.old ++ x ∷ [] else items self.old) }
-        ensures room { result ≡ nat_lt (length (items self.old)) N }
+    pub fn is_empty(&self) -> bool
+        ensures { result ≡ (length (items self.now) == 0) }
+    {
+        self.len == 0
+    }
+
+    /// Puts x after the last item: an error, and nothing changes, where there is no room.
+    pub fn push(&mut self, x: T) -> Result<(), NoRoom>
+        ensures variant { IsOk result ↔ (length (items self.old) < N) }
+        ensures ok { OnOk result (items self.new ≡ items self.old ++ x ∷ []) }
         ensures len { length (items self.old) < N → length (items self.new) ≡ length (items self.old) + 1 }
+        ensures err { OnErr result (self.new ≡ self.old) }
     {
         let len = self.len;
         if len >= N {
-            return false;
+            return Err(NoRoom);
         }
-        self.cells.at[len] = x;
+        self.at[len] = x;
         self.len = len + 1;
-        true
+        Ok(())
     }
 
     pub fn get(&self, i: usize) -> Option<T>
-        ensures { MatchOption result (length (items self.now) ≤ i) (λ x. (i < length (items self.now)) × (x ≡ slice_index_or (items self.now) i x)) }
+        ensures { result ≡ slice_get (items self.now) i }
     {
-        if i < self.len {
-            Some(self.cells.at[i])
-        } else {
-            None
-        }
+        self.as_slice().get(i).copied()
     }
 
-    pub fn set(&mut self, i: usize, x: T) -> bool
+    /// Puts x in place of the item at i, and returns that item.
+    #[tactic(auto, using(crate::proofs::Edits::edits), unfolding(crate::specs::Items::items))]
+    pub fn set(&mut self, i: usize, x: T) -> Option<T>
         ensures list { items self.new ≡ slice_set (items self.old) i x }
-        ensures within { result ≡ nat_lt i (length (items self.old)) }
+        ensures value { result ≡ slice_get (items self.old) i }
+        ensures none { IfNone result (self.new ≡ self.old) }
     {
         if i >= self.len {
-            return false;
+            return None;
         }
-        self.cells.at[i] = x;
-        true
+        let item = self.at[i];
+        self.at[i] = x;
+        Some(item)
     }
 
-    pub fn remove(&mut self, i: usize) -> bool
-        ensures list { items self.new ≡ (if result then remove (items self.old) i else items self.old) }
-        ensures within { result ≡ nat_lt i (length (items self.old)) }
+    /// Takes out the item at i.
+    pub fn remove(&mut self, i: usize) -> Option<T>
+        ensures list { items self.new ≡ remove (items self.old) i }
+        ensures value { result ≡ slice_get (items self.old) i }
+        ensures none { IfNone result (self.new ≡ self.old) }
     {
         let len = self.len;
         if i >= len {
-            return false;
+            return None;
         }
-        self.cells.close(i, len);
+        let at = &mut self.at[..];
+        let item = at[i];
+        at[i..len].rotate_left(1);
         self.len = len - 1;
-        true
+        Some(item)
     }
 
     /// Puts x before the item at i, or after the last.
-    pub fn insert(&mut self, i: usize, x: T) -> bool
-        ensures list { items self.new ≡ (if result then insert (items self.old) i x else items self.old) }
-        ensures room { result ≡ (nat_lt (length (items self.old)) N && nat_le i (length (items self.old))) }
+    pub fn insert(&mut self, i: usize, x: T) -> Result<(), NoRoom>
+        ensures variant { IsOk result ↔ (length (items self.old) < N) × (i ≤ length (items self.old)) }
+        ensures ok { OnOk result (items self.new ≡ insert (items self.old) i x) }
+        ensures err { OnErr result (self.new ≡ self.old) }
     {
+        if i > self.len {
+            return Err(NoRoom);
+        }
+        self.push(x)?;
         let len = self.len;
-        if len >= N {
-            return false;
+        let at = &mut self.at[..];
+        at[i..len].rotate_right(1);
+        Ok(())
+    }
+
+    /// Keeps the items at which `keep` answers true, in their order.
+    pub fn retain<F: FnMut(&T) -> bool>(&mut self, mut keep: F)
+        requires { F.IsAlwaysCallable keep }
+        ensures { IsFiltered (CalledAt F.FnMut) keep (items self.old) (items self.new) }
+    {
+        let standing = *self;
+        self.len = 0;
+        for x in standing.as_slice() {
+            if keep(x) {
+                let _room = self.push(*x);
+            }
         }
-        if i > len {
-            return false;
-        }
-        self.cells.open(i, len, x);
-        self.len = len + 1;
-        true
     }
 
     pub fn as_slice(&self) -> &[T]
         ensures list { result.now ≡ items self.now }
         ensures most { length result.now ≤ N }
     {
-        let all = &self.cells.at[..];
-        &all[0..self.len]
+        &self.at[..self.len]
     }
 }

@@ -1,8 +1,8 @@
 -- What is held after what is held at one number was amended.
-use Rattle.std.proofs.Common.{◌≡◌, ℕ, ◌<◌, ◌≤◌, Bool, true, false, cond, ◌||◌, eqb, ltb, List, [], ◌∷◌, length, get_or, IfSome, Some, None, Option, sym, refl, ap, ◌∙◌, subst, inl, inr, arith}
+use Rattle.std.proofs.Common.{◌≡◌, ℕ, ◌<◌, ◌≤◌, Bool, true, false, ◌||◌, eqb, List, [], ◌∷◌, length, get_or, is_some, IfSome, Some, None, Option, sym, refl, ap, ◌∙◌, subst, inl, inr, arith}
 use Rattle.std.specs.Option.{option_map}
 use Rattle.std.proofs.lemmas.List.{length-map}
-use Rattle.std.proofs.lemmas.Bool.{cases_Bool, cond-true, cond-false, cond_both, lt-ltb, eqb-true, eq-eqb, both_ways}
+use Rattle.std.proofs.lemmas.Bool.{cases_Bool, cond-true, cond-false, eqb-true, eq-eqb, both_ways}
 use Rattle.bounded.specs.Items.{items}
 use Rattle.keyed.specs.Keyed.{Numbered, Mention, After, at, rising, numbers}
 use Rattle.keyed.specs.Merge.{keeping, putting, number_of, merging, unnamed, find_in}
@@ -49,21 +49,16 @@ module _ (n : ℕ) (xs left : List Channel) (rise : rising 0 (numbers (channel_r
   gone = subst (After (channel_rows xs) (shall n None)) (sym (others None)) (merging_after (shall n None) (channel_rows xs) refl rise)
 
   -- where one of the number was held, no more are held with another in its place
-  pub no_more : (r : Bool) (c : Channel) (zs : List Channel) → zs ≡ cond r (putting (λ c. c.number) c left) left → (x : Holding) → at (channel_rows xs) n ≡ Some x → length zs ≤ length xs
-  no_more r c zs e x h =
-      let fewer : length left < length xs = omega (arith, ap length kept, length_without n xs x h) in
-      let put : length (cond r (putting (λ c. c.number) c left) left) ≤ length xs =
-      cond_both r (putting (λ c. c.number) c left) left (λ u. length u ≤ length xs) (λ t. omega (arith, length-putting (λ c. c.number) c left)) (λ t. omega arith) in
-      omega (arith, ap length e)
+  pub no_more : (c : Channel) (zs : List Channel) → zs ≡ putting (λ c. c.number) c left → (x : Holding) → at (channel_rows xs) n ≡ Some x → length zs ≤ length xs
+  no_more c zs e x h = omega (arith, ap length e, ap length kept, length-putting (λ c. c.number) c left, length_without n xs x h)
 
   pub fewer_held : length left ≤ length xs
   fewer_held = omega (arith, ap length kept, length-keeping (λ c. c.number) (λ k. eqb n k) xs)
 
   -- a channel of the number is put in
-  pub came : (c : Channel) (r : Bool) (zs : List Channel) → c.number ≡ n → length xs ≤ 16 → r ≡ ltb (length left) 17 → zs ≡ cond r (putting (λ c. c.number) c left) left → After (channel_rows xs) (shall n (Some (held c))) (channel_rows zs)
-  came c r zs named few room e =
+  pub came : (c : Channel) (zs : List Channel) → c.number ≡ n → zs ≡ putting (λ c. c.number) c left → After (channel_rows xs) (shall n (Some (held c))) (channel_rows zs)
+  came c zs named put =
       let ms = shall n (Some (held c)) in
-      let put : zs ≡ putting (λ c. c.number) c left = e ∙ cond-true r _ _ (room ∙ lt-ltb _ _ (omega (arith, ap length kept, length-keeping (λ c. c.number) (λ k. eqb n k) xs))) in
       let row : Numbered Holding = record { number = n; value = held c } in
       let same : channel_row c ≡ row = ap (λ (k : ℕ). record { number = k; value = held c }) named in
       let rows : channel_rows zs ≡ merging ms (channel_rows xs) =
@@ -73,6 +68,11 @@ module _ (n : ℕ) (xs left : List Channel) (rise : rising 0 (numbers (channel_r
 -- what is found in the slice is what is held
 pub found : (slice xs : List Channel) (n : ℕ) (o : Option Channel) → slice ≡ xs → o ≡ find_in (λ c. c.number) slice n → at (channel_rows xs) n ≡ option_map held o
 found slice xs n o s e = found_at channel_row xs n ∙ sym (ap (option_map held) (e ∙ ap (λ (u : List Channel). find_in (λ c. c.number) u n) s))
+
+-- something is found where something is held
+pub some_held : (o : Option Channel) → is_some o ≡ is_some (option_map held o)
+some_held None = refl
+some_held (Some c) = refl
 
 -- what is found has the number
 pub found_number : (xs : List Channel) (n : ℕ) (c : Channel) → find_in (λ c. c.number) xs n ≡ Some c → c.number ≡ n

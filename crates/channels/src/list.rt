@@ -1,6 +1,6 @@
 //! The calls on the channels held.
 
-ghost use Rattle.std.specs.Prelude.{◌≡◌, ◌<◌, ◌≤◌, true, false, List, [], length, is_some, IfSome};
+ghost use Rattle.std.specs.Prelude.{◌≡◌, ◌<◌, ◌≤◌, true, List, [], length, is_some, IfSome, OnOk, OnErr};
 ghost use Rattle.std.specs.Option.{option_map};
 ghost use Rattle.bounded.specs.Items.{items};
 ghost use Rattle.keyed.specs.Keyed.{Numbered, After, at, rising, numbers};
@@ -9,37 +9,24 @@ ghost use Rattle.channels.specs.Held.{channels_of, shall, asked, Held, Ranked, T
 
 use crate::held::Channels;
 use crate::words::{Channel, Event, State};
-use bounded::Bounded;
+use bounded::{Bounded, NoRoom};
 use judges::Proposal;
 use keyed::{find, put, without};
 use refusals::Refusal;
 
-// A channel to fill room with.
-const NONE: Channel = Channel {
-    number: 0,
-    proposal: Proposal {
-        kind: 0,
-        p: 0,
-        q: 0,
-    },
-    state: State::Pending,
-};
-
-// What an event leaves of a channel depends on the channel's state.
+// What an event leaves of a channel depends on the channel's state: one match on both, as a rule of the project.
 fn turned(channel: Channel, event: Event) -> Result<Option<Channel>, Refusal>
     ensures { Turned channel event result }
 {
     match (channel.state, event) {
         (State::Pending, Event::Accept) => Ok(Some(Channel {
-            number: channel.number,
-            proposal: channel.proposal,
             state: State::Established,
+            ..channel
         })),
-        (State::Pending, Event::Decline) => Ok(None),
-        (State::Established, Event::Close) => Ok(None),
-        (State::Pending, Event::Close) => Err(Refusal::WrongState),
-        (State::Established, Event::Accept) => Err(Refusal::WrongState),
-        (State::Established, Event::Decline) => Err(Refusal::WrongState),
+        (State::Pending, Event::Decline) | (State::Established, Event::Close) => Ok(None),
+        (State::Pending, Event::Close) | (State::Established, Event::Accept | Event::Decline) => {
+            Err(Refusal::WrongState)
+        }
     }
 }
 
@@ -49,9 +36,9 @@ fn amended(list: &Bounded<Channel, 17>, number: u16, next: Option<Channel>) -> B
     ensures after { After (channel_rows (items list.now)) (shall number (option_map (λ d. (channel_row d).value) next)) (channel_rows (items result)) }
     ensures few { Held (channel_rows (items list.now)) number → length (items result) ≤ length (items list.now) }
 {
-    let mut left = without(list, number, NONE);
+    let mut left = without(list, number);
     if let Some(channel) = next {
-        let _room = put(&mut left, channel);
+        put(&mut left, channel).unwrap();
     }
     left
 }
@@ -62,7 +49,7 @@ impl Channels {
         ensures { channels_of result ≡ [] }
     {
         Channels {
-            list: Bounded::new(NONE),
+            list: Bounded::default(),
         }
     }
 
@@ -84,10 +71,7 @@ impl Channels {
     pub fn holds(&self, number: u16) -> bool
         ensures { result ≡ is_some (at (channels_of self.now) number) }
     {
-        match find(self.list.as_slice(), number) {
-            Some(_) => true,
-            None => false,
-        }
+        find(self.list.as_slice(), number).is_some()
     }
 
     /// The channels, by rising number.
@@ -109,33 +93,27 @@ impl Channels {
         amended(&self.list, number, Some(channel))
     }
 
-    /// Holds these channels, which an ask concerns: false, and nothing changes, where they are more than 16.
-    pub fn hold(&mut self, number: u16, proposal: Proposal) -> bool
-        ensures held { result ≡ true → After (channels_of self.old) (asked number proposal) (channels_of self.new) }
-        ensures full { result ≡ false → (self.new ≡ self.old) × ((ys : List (Numbered Holding)) → After (channels_of self.old) (asked number proposal) ys → 16 < length ys) }
+    /// Holds these channels, which an ask concerns: an error, and nothing changes, where they are more than 16.
+    pub fn hold(&mut self, number: u16, proposal: Proposal) -> Result<(), NoRoom>
+        ensures held { OnOk result (After (channels_of self.old) (asked number proposal) (channels_of self.new)) }
+        ensures full { OnErr result ((self.new ≡ self.old) × ((ys : List (Numbered Holding)) → After (channels_of self.old) (asked number proposal) ys → 16 < length ys)) }
     {
         let list = self.concerned(number, proposal);
         if list.len() > 16 {
-            return false;
+            return Err(NoRoom);
         }
         *self = Channels { list };
-        true
+        Ok(())
     }
 
     /// What an event does to the channel of a number.
     pub fn meet(&mut self, event: Event, number: u16) -> Result<(), Refusal>
         ensures { Met event number self.old result self.new }
     {
-        let Some(channel) = find(self.list.as_slice(), number) else {
-            return Err(Refusal::Unknown);
-        };
-        match turned(channel, event) {
-            Ok(next) => {
-                let list = amended(&self.list, number, next);
-                *self = Channels { list };
-                Ok(())
-            }
-            Err(refusal) => Err(refusal),
-        }
+        let channel = find(self.list.as_slice(), number).ok_or(Refusal::Unknown)?;
+        let next = turned(channel, event)?;
+        let list = amended(&self.list, number, next);
+        *self = Channels { list };
+        Ok(())
     }
 }

@@ -3,21 +3,13 @@
 use crate::words::Channel;
 use judges::Proposal;
 use keyed::ByNumber;
-use search::{NumberedRow, Row};
+use search::Row;
 
 impl Row for Channel {
     ghost asks = { λ c. c.proposal };
 
     fn proposal(&self) -> Proposal {
         self.proposal
-    }
-}
-
-impl NumberedRow for Channel {
-    ghost named = { λ c. c.number };
-
-    fn number(&self) -> u16 {
-        self.number
     }
 }
 

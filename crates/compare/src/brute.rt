@@ -1,7 +1,6 @@
 //! The second decision, by brute force: which sets can be in use once some of the rows are seated.
 
 use crate::announced::{Announced, AnnouncedDescriptor, AnnouncedEntry, AnnouncedSet};
-use crate::asked::Asked;
 use bounded::Bounded;
 use judges::{Judge, Proposal, StandardJudge};
 
@@ -16,81 +15,57 @@ pub type Usable = Bounded<u32, 18>;
 
 // Whether the entry of this number covers the proposal.
 fn does_entry_cover(entries: &[AnnouncedEntry], number: u16, wanted: &Proposal) -> bool {
-    for e in entries {
-        if e.number == number && StandardJudge.does_cover(&e.capability, wanted) {
-            return true;
-        }
-    }
-    false
+    entries.iter().any(|e| e.number == number && StandardJudge.does_cover(&e.capability, wanted))
 }
 
 // Whether a member of the set names an entry that covers the proposal.
 fn can_use(entries: &[AnnouncedEntry], set: &AnnouncedSet, wanted: &Proposal) -> bool {
-    for number in set.members.as_slice() {
-        if does_entry_cover(entries, *number, wanted) {
-            return true;
-        }
-    }
-    false
+    set.members
+        .iter()
+        .any(|number| does_entry_cover(entries, *number, wanted))
 }
 
-// The sets that a proposal can use.
+// The sets that a proposal can use, a bit for each, the first set's the lowest.
 fn sets_for(entries: &[AnnouncedEntry], sets: &[AnnouncedSet], wanted: &Proposal) -> u32 {
-    let mut mask: u32 = 0;
-    let mut bit: u32 = 1;
-    for s in sets {
-        if can_use(entries, s, wanted) {
-            mask |= bit;
-        }
-        bit <<= 1;
-    }
-    mask
+    sets.iter().rev().fold(0, |mask, set| {
+        mask << 1 | u32::from(can_use(entries, set, wanted))
+    })
 }
 
 /// The sets of the descriptor that each row can use.
 pub(crate) fn usable(
     entries: &[AnnouncedEntry],
     d: &AnnouncedDescriptor,
-    rows: &[Asked],
+    rows: &[Proposal],
 ) -> Usable {
-    let mut masks = Bounded::new(0);
+    let mut masks = Bounded::default();
     for row in rows {
-        let _room = masks.push(sets_for(entries, d.sets.as_slice(), &row.wanted));
+        let _ = masks.push(sets_for(entries, &d.sets, row));
     }
     masks
 }
 
 // From the sets in use, marks those that are in use once a row has one more of its sets.
-fn spread(reached: &mut [bool; 1024], used: usize, mask: usize) {
-    let mut bit: usize = 1;
-    for _ in 0..SETS {
+fn spread(reached: &mut [bool; MASKS], used: usize, mask: usize) {
+    // By number, since a set is a bit of the mask.
+    for s in 0..SETS {
+        let bit = 1 << s;
         if used & bit == 0 && mask & bit != 0 {
             reached[(used | bit) % MASKS] = true;
         }
-        bit <<= 1;
     }
-}
-
-// How many sets a mask has.
-fn size_of(mask: usize) -> usize {
-    let mut size: usize = 0;
-    for s in 0..SETS {
-        if (mask >> s) & 1 == 1 {
-            size = size.saturating_add(1);
-        }
-    }
-    size
 }
 
 /// Whether a descriptor carries the rows. A mask of sets is reached where the first rows, as many
 /// as it has sets, can be seated at exactly its sets; the rows are carried where a mask of as many
 /// sets as there are rows is reached.
 pub(crate) fn is_carried(usable: &[u32]) -> bool {
-    let mut reached = [false; 1024];
+    let mut reached = [false; MASKS];
     reached[0] = true;
+    // By number, since masks further on are marked while those before are read.
     for used in 0..MASKS {
         if reached[used] {
-            match usable.get(size_of(used)) {
+            match usable.get(used.count_ones() as usize) {
                 Some(mask) => spread(&mut reached, used, *mask as usize),
                 None => return true,
             }
@@ -102,6 +77,7 @@ pub(crate) fn is_carried(usable: &[u32]) -> bool {
 /// Whether the rows find seats in order, each at the first free set that it can use, and none moves.
 pub(crate) fn is_carried_in_order(usable: &[u32]) -> bool {
     let mut used: u32 = 0;
+    // Row by row, since each takes a set from those after it.
     for mask in usable {
         let free = *mask & !used;
         if free == 0 {
@@ -113,21 +89,11 @@ pub(crate) fn is_carried_in_order(usable: &[u32]) -> bool {
 }
 
 /// The smallest number of a descriptor that carries the rows.
-pub(crate) fn smallest_of(announced: &Announced, rows: &[Asked]) -> Option<u8> {
-    let mut best = None;
-    for d in announced.descriptors.as_slice() {
-        let masks = usable(announced.entries.as_slice(), d, rows);
-        if is_carried(masks.as_slice()) {
-            best = Some(lesser(best, d.number));
-        }
-    }
-    best
-}
-
-// The lesser of the number so far, if there is one, and another.
-fn lesser(best: Option<u8>, number: u8) -> u8 {
-    match best {
-        Some(b) => b.min(number),
-        None => number,
-    }
+pub(crate) fn smallest_of(announced: &Announced, rows: &[Proposal]) -> Option<u8> {
+    announced
+        .descriptors
+        .iter()
+        .filter(|d| is_carried(&usable(&announced.entries, d, rows)))
+        .map(|d| d.number)
+        .min()
 }

@@ -1,12 +1,11 @@
 //! One case: the search is asked, and its answer and the scratch are compared.
 
 use crate::announced::Announced;
-use crate::asked::Asked;
 use crate::brute::{is_carried_in_order, smallest_of, usable};
 use crate::notes::is_note_right;
 use crate::random::Random;
 use crate::tally::{Tally, count};
-use judges::StandardJudge;
+use judges::{Proposal, StandardJudge};
 use refusals::Refusal;
 use search::{Found, ROOM, search, smallest};
 use table::Table;
@@ -23,28 +22,21 @@ fn fill(random: &mut Random, scratch: &mut [u8]) {
 
 // Whether the first octets are zero, as many as are said to be wiped, and the others as before.
 fn is_left(before: &[u8], after: &[u8], wiped: usize) -> bool {
-    for (i, octet) in after.iter().enumerate() {
-        let kept = before.get(i).copied().unwrap_or(0);
-        let wanted = if i < wiped { 0 } else { kept };
-        if *octet != wanted {
-            return false;
-        }
-    }
-    true
+    before.iter().zip(after).enumerate().all(|(i, (kept, octet))| {
+        let wanted = if i < wiped { 0 } else { *kept };
+        *octet == wanted
+    })
 }
 
 // Counts what the descriptor that carries the rows shows of the mix of cases.
-fn count_carried(announced: &Announced, rows: &[Asked], number: u8, tally: &mut Tally) {
+fn count_carried(announced: &Announced, rows: &[Proposal], number: u8, tally: &mut Tally) {
     count(&mut tally.carried);
-    for d in announced.descriptors.as_slice() {
-        if d.number < number {
-            count(&mut tally.passed_over);
-            break;
-        }
+    if announced.descriptors.iter().any(|d| d.number < number) {
+        count(&mut tally.passed_over);
     }
     if let Some(d) = announced.descriptor(number) {
-        let masks = usable(announced.entries.as_slice(), &d, rows);
-        if !is_carried_in_order(masks.as_slice()) {
+        let masks = usable(&announced.entries, &d, rows);
+        if !is_carried_in_order(&masks) {
             count(&mut tally.moved);
         }
     }
@@ -55,7 +47,7 @@ fn compare(
     found: &Found,
     expected: Option<u8>,
     announced: &Announced,
-    rows: &[Asked],
+    rows: &[Proposal],
     tally: &mut Tally,
 ) {
     match found {
@@ -65,91 +57,54 @@ fn compare(
         }
         Found::Blocked(note) => {
             tally.expect(expected.is_none());
-            tally.expect(is_note_right(note.as_slice(), announced, rows));
+            tally.expect(is_note_right(note, announced, rows));
             count(&mut tally.blocked);
-            for _ in 0..note.len() {
-                count(&mut tally.note_rows);
-            }
+            tally.note_rows = tally.note_rows.saturating_add(note.len() as u64);
         }
     }
 }
 
-// What `search` answers in the first octets of the scratch, as many as are lent.
-fn search_in(
-    table: &Table,
-    rows: &[Asked],
-    scratch: &mut [u8],
-    lent: usize,
-) -> Result<Found, Refusal> {
-    let end = lent.min(scratch.len());
-    search(&StandardJudge, table, rows, &mut scratch[0..end])
-}
-
-// What `smallest` answers, likewise.
-fn smallest_in(
-    table: &Table,
-    rows: &[Asked],
-    scratch: &mut [u8],
-    lent: usize,
-) -> Result<Option<u8>, Refusal> {
-    let end = lent.min(scratch.len());
-    smallest(&StandardJudge, table, rows, &mut scratch[0..end])
-}
-
-// Asks `search`, in scratch of 512 octets and up to 32 more.
-fn ask_search(
+// What a call answers in scratch of 512 octets and up to 32 more: it leaves the first 512 zero.
+fn ask<T, F: FnOnce(&mut [u8]) -> Result<T, Refusal>>(
     random: &mut Random,
-    table: &Table,
-    announced: &Announced,
-    rows: &[Asked],
-    expected: Option<u8>,
     tally: &mut Tally,
-) {
+    call: F,
+) -> Result<T, Refusal>
+    requires { F.IsAlwaysCallable call }
+{
     let mut scratch = [0u8; 544];
     fill(random, &mut scratch);
     let before = scratch;
     let lent = ROOM + random.below(33);
-    match search_in(table, rows, &mut scratch, lent) {
-        Ok(found) => compare(&found, expected, announced, rows, tally),
-        Err(_) => tally.expect(false),
-    }
+    let answer = call(&mut scratch[..lent]);
     tally.expect(is_left(&before, &scratch, ROOM));
+    answer
 }
 
-// Asks `smallest`, likewise.
-fn ask_smallest(
-    random: &mut Random,
-    table: &Table,
-    rows: &[Asked],
-    expected: Option<u8>,
+// Expects that a call in scratch of 511 octets is refused by 1, and leaves the scratch as it was.
+fn expect_refused<T: Drop, F: FnOnce(&mut [u8]) -> Result<T, Refusal>>(
+    scratch: &mut [u8; 511],
     tally: &mut Tally,
-) {
-    let mut scratch = [0u8; 544];
-    fill(random, &mut scratch);
-    let before = scratch;
-    let lent = ROOM + random.below(33);
-    match smallest_in(table, rows, &mut scratch, lent) {
-        Ok(answer) => tally.expect(answer == expected),
-        Err(_) => tally.expect(false),
-    }
-    tally.expect(is_left(&before, &scratch, ROOM));
+    call: F,
+)
+    requires { F.IsAlwaysCallable call }
+{
+    let before = *scratch;
+    let answer = call(scratch);
+    tally.expect(matches!(answer, Err(refusal) if refusal.number() == 1));
+    tally.expect(is_left(&before, scratch, 0));
 }
 
-// Asks both in scratch of 511 octets: each is refused by 1, and leaves the scratch as it was.
-fn ask_short(random: &mut Random, table: &Table, rows: &[Asked], tally: &mut Tally) {
+// Asks both in the same scratch, which is too short.
+fn ask_short(random: &mut Random, table: &Table, rows: &[Proposal], tally: &mut Tally) {
     let mut scratch = [0u8; 511];
     fill(random, &mut scratch);
-    let before = scratch;
-    match search(&StandardJudge, table, rows, &mut scratch) {
-        Ok(_) => tally.expect(false),
-        Err(refusal) => tally.expect(refusal.number() == 1),
-    }
-    tally.expect(is_left(&before, &scratch, 0));
-    match smallest(&StandardJudge, table, rows, &mut scratch) {
-        Ok(_) => tally.expect(false),
-        Err(refusal) => tally.expect(refusal.number() == 1),
-    }
-    tally.expect(is_left(&before, &scratch, 0));
+    expect_refused(&mut scratch, tally, |scratch| {
+        search(&StandardJudge, table, rows, scratch)
+    });
+    expect_refused(&mut scratch, tally, |scratch| {
+        smallest(&StandardJudge, table, rows, scratch)
+    });
     count(&mut tally.refused);
 }
 
@@ -158,7 +113,7 @@ pub(crate) fn examine(
     random: &mut Random,
     table: &Table,
     announced: &Announced,
-    rows: &[Asked],
+    rows: &[Proposal],
     tally: &mut Tally,
 ) {
     let expected = smallest_of(announced, rows);
@@ -166,8 +121,17 @@ pub(crate) fn examine(
     if rows.len() > MOST_ROWS {
         count(&mut tally.crowded);
     }
-    ask_search(random, table, announced, rows, expected, tally);
-    ask_smallest(random, table, rows, expected, tally);
+    let answer = ask(random, tally, |scratch| {
+        search(&StandardJudge, table, rows, scratch)
+    });
+    match answer {
+        Ok(found) => compare(&found, expected, announced, rows, tally),
+        Err(_) => tally.expect(false),
+    }
+    let answer = ask(random, tally, |scratch| {
+        smallest(&StandardJudge, table, rows, scratch)
+    });
+    tally.expect(answer == Ok(expected));
     if random.below(16) == 0 {
         ask_short(random, table, rows, tally);
     }

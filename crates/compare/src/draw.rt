@@ -3,17 +3,7 @@
 use crate::announced::{Announced, AnnouncedDescriptor, AnnouncedEntry, AnnouncedSet};
 use crate::random::Random;
 use bounded::Bounded;
-use judges::Capability;
-
-/// The kinds of the standard judge.
-#[derive(Clone, Copy)]
-pub enum Kind {
-    ALaw = 1,
-    MuLaw = 2,
-    G7231 = 3,
-    H261 = 4,
-    T120 = 5,
-}
+use judges::{Capability, Kind};
 
 /// How many alternative sets the descriptors of a table have at most.
 #[derive(Clone, Copy)]
@@ -27,8 +17,8 @@ pub enum Width {
 /// A kind.
 pub(crate) fn draw_kind(random: &mut Random) -> Kind {
     match random.below(8) {
-        0 | 1 => Kind::ALaw,
-        2 => Kind::MuLaw,
+        0 | 1 => Kind::G711ALaw,
+        2 => Kind::G711MuLaw,
         3 | 4 => Kind::G7231,
         5 | 6 => Kind::H261,
         _ => Kind::T120,
@@ -49,31 +39,24 @@ pub(crate) fn draw_pictures(random: &mut Random) -> u32 {
 /// A lawful capability of this kind, with small numbers.
 pub(crate) fn draw_capability(random: &mut Random, kind: Kind) -> Capability {
     let frames = 1 + random.below(4) as u32;
-    match kind {
-        Kind::ALaw | Kind::MuLaw | Kind::T120 => Capability {
-            kind: kind as u8,
-            p: frames,
-            q: 0,
-        },
-        Kind::G7231 => Capability {
-            kind: kind as u8,
-            p: frames,
-            q: random.below(2) as u32,
-        },
-        Kind::H261 => Capability {
-            kind: kind as u8,
-            p: draw_pictures(random),
-            q: frames,
-        },
+    let (p, q) = match kind {
+        Kind::G711ALaw | Kind::G711MuLaw | Kind::T120 => (frames, 0),
+        Kind::G7231 => (frames, random.below(2) as u32),
+        Kind::H261 => (draw_pictures(random), frames),
+    };
+    Capability {
+        kind: u8::from(kind),
+        p,
+        q,
     }
 }
 
-/// One of the entries, where there are any.
-pub(crate) fn draw_one(random: &mut Random, entries: &[AnnouncedEntry]) -> Option<AnnouncedEntry> {
-    if entries.is_empty() {
+/// One of the items, where there are any.
+pub(crate) fn draw_one<T: Copy>(random: &mut Random, items: &[T]) -> Option<T> {
+    if items.is_empty() {
         return None;
     }
-    entries.get(random.below(entries.len())).copied()
+    items.get(random.below(items.len())).copied()
 }
 
 // How many members a set gets: mostly few, so that sets differ.
@@ -88,10 +71,10 @@ fn draw_member_count(random: &mut Random) -> usize {
 
 // An alternative set of 1 to 4 of the entries, some of them perhaps twice.
 fn draw_set(random: &mut Random, entries: &[AnnouncedEntry]) -> AnnouncedSet {
-    let mut members = Bounded::new(0);
+    let mut members = Bounded::default();
     for _ in 0..draw_member_count(random) {
         if let Some(e) = draw_one(random, entries) {
-            let _room = members.push(e.number);
+            let _ = members.push(e.number);
         }
     }
     AnnouncedSet { members }
@@ -112,11 +95,9 @@ pub(crate) fn draw_descriptor(
     number: u8,
     width: Width,
 ) -> AnnouncedDescriptor {
-    let mut sets = Bounded::new(AnnouncedSet {
-        members: Bounded::new(0),
-    });
+    let mut sets = Bounded::default();
     for _ in 0..draw_set_count(random, width) {
-        let _room = sets.push(draw_set(random, entries));
+        let _ = sets.push(draw_set(random, entries));
     }
     AnnouncedDescriptor { number, sets }
 }
@@ -146,7 +127,7 @@ fn draw_entries(random: &mut Random, announced: &mut Announced) {
         if announced.entry(number).is_none() {
             let kind = draw_mostly(random, usual);
             let capability = draw_capability(random, kind);
-            let _room = announced
+            let _ = announced
                 .entries
                 .push(AnnouncedEntry { number, capability });
         }
@@ -166,15 +147,15 @@ fn draw_descriptors(random: &mut Random, announced: &mut Announced, width: Width
     for _ in 0..draw_descriptor_count(random) {
         let number = draw_number(random);
         if announced.descriptor(number).is_none() {
-            let d = draw_descriptor(random, announced.entries.as_slice(), number, width);
-            let _room = announced.descriptors.push(d);
+            let d = draw_descriptor(random, &announced.entries, number, width);
+            let _ = announced.descriptors.push(d);
         }
     }
 }
 
 /// A whole table.
 pub(crate) fn draw_table(random: &mut Random, width: Width) -> Announced {
-    let mut announced = Announced::new();
+    let mut announced = Announced::default();
     draw_entries(random, &mut announced);
     draw_descriptors(random, &mut announced, width);
     announced

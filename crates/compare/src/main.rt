@@ -3,7 +3,6 @@
 #![tactic(auto)]
 
 mod announced;
-mod asked;
 mod brute;
 mod case;
 mod draw;
@@ -49,7 +48,7 @@ fn report(rt: &HostRuntime, t: &Tally) -> io::Result<()> {
 }
 
 fn main(rt: HostRuntime) -> io::Result<()> {
-    let mut tally = Tally::new();
+    let mut tally = Tally::default();
     print!(rt; "seeds")?;
     for seed in SEEDS {
         print!(rt; " {seed}")?;

@@ -2,16 +2,7 @@
 
 use crate::announced::{AnnouncedDescriptor, AnnouncedEntry, AnnouncedSet};
 use bounded::Bounded;
-
-// The records of a set message.
-#[derive(Clone, Copy)]
-enum Tag {
-    Begin = 1,
-    Entry = 2,
-    Descriptor = 4,
-    Set = 5,
-    End = 6,
-}
+use records::Tag;
 
 // How many octets a record has.
 const RECORD: usize = 32;
@@ -26,7 +17,7 @@ impl Message {
     /// A message that begins, with its sequence number.
     pub(crate) fn new(sequence: u8) -> Message {
         let mut message = Message {
-            octets: Bounded::new(0),
+            octets: Bounded::default(),
         };
         message.write(Tag::Begin, sequence, &[]);
         message
@@ -34,11 +25,10 @@ impl Message {
 
     // Adds a record: its tag, octet 1, the octets from 2 on, and zeros.
     fn write(&mut self, tag: Tag, first: u8, fields: &[u8]) {
-        let _tag = self.octets.push(tag as u8);
-        let _first = self.octets.push(first);
-        for i in 0..RECORD - 2 {
-            let octet = fields.get(i).copied().unwrap_or(0);
-            let _room = self.octets.push(octet);
+        let zeros = [0; RECORD];
+        let named = [u8::from(tag), first];
+        for octet in named.iter().chain(fields).chain(&zeros).take(RECORD) {
+            let _ = self.octets.push(*octet);
         }
     }
 
@@ -53,21 +43,19 @@ impl Message {
 
     // Adds an alternative set.
     fn set(&mut self, set: &AnnouncedSet) {
-        let mut fields: Bounded<u8, 8> = Bounded::new(0);
-        let mut count: u8 = 0;
-        for number in set.members.as_slice() {
-            let [high, low] = number.to_be_bytes();
-            let _high = fields.push(high);
-            let _low = fields.push(low);
-            count = count.saturating_add(1);
+        let mut fields: Bounded<u8, 8> = Bounded::default();
+        for number in set.members.iter() {
+            for octet in number.to_be_bytes() {
+                let _ = fields.push(octet);
+            }
         }
-        self.write(Tag::Set, count, fields.as_slice());
+        self.write(Tag::Alternatives, set.members.len() as u8, &fields);
     }
 
     /// Adds a descriptor with its sets.
     pub(crate) fn descriptor(&mut self, d: &AnnouncedDescriptor) {
         self.no_descriptor(d.number);
-        for s in d.sets.as_slice() {
+        for s in d.sets.iter() {
             self.set(s);
         }
     }
@@ -84,6 +72,6 @@ impl Message {
 
     /// The octets so far.
     pub(crate) fn octets(&self) -> &[u8] {
-        self.octets.as_slice()
+        &self.octets
     }
 }

@@ -1,8 +1,8 @@
 //! Checks the note rows of a blocked answer, each by a direct count.
 
 use crate::announced::Announced;
-use crate::asked::Asked;
 use crate::brute::usable;
+use judges::Proposal;
 use search::NoteRow;
 
 // Whether the group of a note row blocks: it is not empty, it has rows of the case only, and the
@@ -25,35 +25,22 @@ fn does_block(note: &NoteRow, usable: &[u32]) -> bool {
 }
 
 // Whether the descriptor of the note row stands, and its group blocks.
-fn is_row_right(note: &NoteRow, announced: &Announced, rows: &[Asked]) -> bool {
-    match announced.descriptor(note.descriptor) {
-        Some(d) => does_block(
-            note,
-            usable(announced.entries.as_slice(), &d, rows).as_slice(),
-        ),
-        None => false,
-    }
+fn is_row_right(note: &NoteRow, announced: &Announced, rows: &[Proposal]) -> bool {
+    announced.descriptor(note.descriptor).is_some_and(|d| {
+        does_block(note, &usable(&announced.entries, &d, rows))
+    })
 }
 
 // Whether the descriptors of the note rows rise.
 fn do_rise(note: &[NoteRow]) -> bool {
-    let mut next: u16 = 0;
-    for row in note {
-        let number = u16::from(row.descriptor);
-        if number < next {
-            return false;
-        }
-        next = number + 1;
-    }
-    true
+    note.iter()
+        .zip(note.iter().skip(1))
+        .all(|(row, next)| row.descriptor < next.descriptor)
 }
 
 /// Whether the note has one row for each standing descriptor, by rising number, and each is right.
-pub(crate) fn is_note_right(note: &[NoteRow], announced: &Announced, rows: &[Asked]) -> bool {
-    for row in note {
-        if !is_row_right(row, announced, rows) {
-            return false;
-        }
-    }
-    note.len() == announced.descriptors.len() && do_rise(note)
+pub(crate) fn is_note_right(note: &[NoteRow], announced: &Announced, rows: &[Proposal]) -> bool {
+    note.iter().all(|row| is_row_right(row, announced, rows))
+        && note.len() == announced.descriptors.len()
+        && do_rise(note)
 }

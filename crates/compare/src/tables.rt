@@ -16,10 +16,7 @@ const CASES: usize = 4;
 // Ends the message and gives it to the table, which has to take it.
 fn give(table: &mut Table, message: &mut Message, sequence: u8, tally: &mut Tally) {
     message.end();
-    match table.set(&StandardJudge, message.octets()) {
-        Ok(answer) => tally.expect(answer == sequence),
-        Err(_) => tally.expect(false),
-    }
+    tally.expect(table.set(&StandardJudge, message.octets()) == Ok(sequence));
     count(&mut tally.messages);
 }
 
@@ -27,10 +24,10 @@ fn give(table: &mut Table, message: &mut Message, sequence: u8, tally: &mut Tall
 fn announce(random: &mut Random, table: &mut Table, announced: &Announced, tally: &mut Tally) {
     let sequence = random.octet();
     let mut message = Message::new(sequence);
-    for e in announced.entries.as_slice() {
+    for e in announced.entries.iter() {
         message.entry(e);
     }
-    for d in announced.descriptors.as_slice() {
+    for d in announced.descriptors.iter() {
         message.descriptor(d);
     }
     give(table, &mut message, sequence, tally);
@@ -42,7 +39,7 @@ fn change_entry(random: &mut Random, announced: &mut Announced, message: &mut Me
     if let Some(mut e) = announced.entries.get(place) {
         let kind = draw_kind(random);
         e.capability = draw_capability(random, kind);
-        let _stood = announced.entries.set(place, e);
+        let _ = announced.entries.set(place, e);
         message.entry(&e);
     }
 }
@@ -59,11 +56,11 @@ fn change_descriptor(
         return;
     };
     if random.below(3) == 0 {
-        let _stood = announced.descriptors.remove(place);
+        let _ = announced.descriptors.remove(place);
         message.no_descriptor(old.number);
     } else {
-        let d = draw_descriptor(random, announced.entries.as_slice(), old.number, width);
-        let _stood = announced.descriptors.set(place, d);
+        let d = draw_descriptor(random, &announced.entries, old.number, width);
+        let _ = announced.descriptors.set(place, d);
         message.descriptor(&d);
     }
 }
@@ -104,6 +101,6 @@ pub(crate) fn examine_table(random: &mut Random, tally: &mut Tally) {
     count(&mut tally.tables);
     for _ in 0..CASES {
         let rows = draw_rows(random, &announced, width);
-        examine(random, &table, &announced, rows.as_slice(), tally);
+        examine(random, &table, &announced, &rows, tally);
     }
 }

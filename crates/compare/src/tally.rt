@@ -1,7 +1,7 @@
 //! What was done and found.
 
 /// Counts over all seeds.
-#[derive(Drop)]
+#[derive(Default, Drop)]
 pub struct Tally {
     pub tables: u64,
     pub messages: u64,
@@ -17,23 +17,6 @@ pub struct Tally {
 }
 
 impl Tally {
-    /// Nothing done.
-    pub(crate) fn new() -> Tally {
-        Tally {
-            tables: 0,
-            messages: 0,
-            cases: 0,
-            crowded: 0,
-            carried: 0,
-            passed_over: 0,
-            moved: 0,
-            blocked: 0,
-            note_rows: 0,
-            refused: 0,
-            differences: 0,
-        }
-    }
-
     /// Counts a difference where something is not as it must be.
     pub(crate) fn expect(&mut self, is_right: bool) {
         if !is_right {

@@ -1,5 +1,5 @@
 -- How an input is cut into pieces. A record is 32 octets, and its first octet is its tag.
-use Rattle.std.specs.Prelude.{◌≡◌, ℕ, ◌+◌, ◌-◌, ◌*◌, ◌%◌, ◌<◌, ◌≤◌, cond, ◌⊎◌, List, [], ◌∷◌, ◌++◌, length, ◌==◌, ◌≢◌, nat_lt, slice_index}
+use Rattle.std.specs.Prelude.{◌≡◌, ℕ, ◌+◌, ◌-◌, ◌*◌, ◌/◌, ◌%◌, ◌<◌, ◌≤◌, min, cond, ◌⊎◌, List, [], ◌∷◌, ◌++◌, length, ◌==◌, ◌≢◌, nat_lt, slice_index, slice_index_or}
 
 -- The kinds of pieces.
 pub data Kind : Type 0 where
@@ -16,6 +16,11 @@ pub record Portion : Type 0 where
 -- the tag of record i of the input, where the first is record 0
 abbrev pub tag : List ℕ → ℕ → ℕ
 tag xs i = slice_index xs (32 * i)
+
+-- The list rs is the whole records at the front of the input, at most so many.
+pub record Records (xs : List ℕ) (most : ℕ) (rs : List (List ℕ)) : Type 0 where
+  pub count : length rs ≡ min most (length xs / 32)
+  pub tags : (i : ℕ) → i < length rs → slice_index (slice_index_or rs i []) 0 ≡ tag xs i
 
 -- a whole record stands after the first k records
 abbrev pub More : List ℕ → ℕ → Type 0

@@ -5,5 +5,5 @@
 mod front;
 mod piece;
 
-pub use front::{cut, one_cutting};
+pub use front::{Pieces, cut, one_cutting};
 pub use piece::Piece;

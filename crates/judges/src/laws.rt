@@ -9,18 +9,14 @@ ghost use Rattle.judges.specs.Laws.{
 };
 
 /// The standard judge's answers mean its table.
-pub fn standard_rules_stand() -> u8
+pub fn standard_rules_stand()
     ensures lawful { StandardLawfulMeans }
     ensures covers { StandardCoversMeans }
-{
-    0
-}
+{}
 
 /// The own-kind judge's answers mean its rule.
-pub fn own_kind_rules_stand() -> u8
+pub fn own_kind_rules_stand()
     ensures lawful { OwnLawfulMeans }
     ensures covers { OwnCoversMeans }
     ensures mask { MaskMeans }
-{
-    0
-}
+{}

@@ -1,8 +1,7 @@
 -- A list by number and what it stands for: putting, keeping and looking up go through the view.
-use Rattle.std.proofs.Common.{◌≡◌, ℕ, suc, ◌+◌, ◌<◌, ◌≤◌, Bool, true, false, cond, eqb, ltb, List, [], ◌∷◌, map, length, Some, None, Option, sym, refl, ap, ◌∙◌, arith}
+use Rattle.std.proofs.Common.{◌≡◌, ℕ, suc, ◌+◌, ◌≤◌, Bool, true, false, cond, eqb, ltb, List, [], ◌∷◌, map, length, Some, None, Option, sym, refl, ap, ◌∙◌, arith}
 use Rattle.std.specs.Option.{option_map}
-use Rattle.std.proofs.lemmas.List.{length-map}
-use Rattle.std.proofs.lemmas.Bool.{cond_both, ltb-false}
+use Rattle.std.proofs.lemmas.Bool.{cond_both}
 use Rattle.keyed.specs.Keyed.{Numbered, Mention, at, among, mentioned}
 use Rattle.keyed.specs.Merge.{find_in, keeping, putting, number_of, coming, added, unnamed}
 
@@ -63,18 +62,7 @@ module _ {V : Type 0} where
   length-coming n None xs = omega arith
   length-coming n (Some v) xs = omega (arith, length-putting number_of (record { number = n; value = v }) xs)
 
-  length-added : (ms : List (Mention V)) (xs : List (Numbered V)) → length xs ≤ length (added ms xs)
+  -- more is added, and nothing lost
+  pub length-added : (ms : List (Mention V)) (xs : List (Numbered V)) → length xs ≤ length (added ms xs)
   length-added [] xs = omega arith
   length-added (m ∷ ms) xs = omega (arith, length-coming m.number m.shall xs, length-added ms (coming m.number m.shall xs))
-
-  -- where one more is put into a full list, the merged one has too many
-  too_many : (cap : ℕ) (x : Numbered V) (ms : List (Mention V)) (xs all : List (Numbered V)) → added ms (putting number_of x xs) ≡ all → cap ≤ length xs → cap < length all
-  too_many cap x ms xs all q f = omega (arith, ap length q, length-added ms (putting number_of x xs), length-putting number_of x xs)
-
--- one more is put into the list that stands for what is merged so far
-module _ {X V : Type 0} (view : X → Numbered V) (x : X) (xs : List X) (ms : List (Mention V)) (all : List (Numbered V)) (inv : added ms (putting number_of (view x) (map view xs)) ≡ all) where
-  pub put_more : (zs : List X) → zs ≡ putting (key view) x xs → added ms (map view zs) ≡ all
-  put_more zs e = ap (λ (u : List X). added ms (map view u)) e ∙ ap (added ms) (map-putting view x xs) ∙ inv
-
-  pub put_full : (cap : ℕ) → ltb (length xs) cap ≡ false → cap < length all
-  put_full cap e = too_many cap (view x) ms (map view xs) all inv (omega (arith, ltb-false _ _ e, length-map xs view))

@@ -1,16 +1,23 @@
 -- The octets of a line.
-use Rattle.std.specs.Prelude.{ℕ, List, [], ◌∷◌, ◌++◌, codes, decimal}
+use Rattle.std.specs.Prelude.{ℕ, List, [], ◌∷◌, ◌++◌, Result, Ok, Err, codes, decimal}
+use Rattle.refusals.specs.declared.refusal.Refusal.{Refusal}
+use Rattle.refusals.specs.Number.{number}
 use Rattle.lines.specs.declared.line.Line.{Line}
-use Rattle.lines.specs.declared.line.Line.TheVariants.{Set, Mode, NoMode, Open, NoOpen, Close, Bad, Short}
+use Rattle.lines.specs.declared.line.Line.TheVariants.{Set, Mode, Open, Close, Bad, Short}
+
+-- the number of an answer that says no more: 0 for success
+abbrev pub answer_number : Result Unit Refusal → ℕ
+answer_number (Ok x) = 0
+answer_number (Err k) = number k
 
 -- what a line says: a word, then its numbers in decimal, each after one space, and - for a number that is lacking
 abbrev pub text : Line → List ℕ
-text (Set sequence refusal) = codes "set " ++ (decimal sequence ++ (codes " " ++ decimal refusal))
-text (Mode place descriptor) = codes "mode 0 " ++ (decimal place ++ (codes " " ++ decimal descriptor))
-text (NoMode refusal) = codes "mode " ++ (decimal refusal ++ codes " - -")
-text (Open channel descriptor) = codes "open " ++ (decimal channel ++ (codes " 0 " ++ decimal descriptor))
-text (NoOpen channel refusal) = codes "open " ++ (decimal channel ++ (codes " " ++ (decimal refusal ++ codes " -")))
-text (Close channel refusal) = codes "close " ++ (decimal channel ++ (codes " " ++ decimal refusal))
+text (Set sequence answer) = codes "set " ++ (decimal sequence ++ (codes " " ++ decimal (answer_number answer)))
+text (Mode (Ok a)) = codes "mode 0 " ++ (decimal a.place ++ (codes " " ++ decimal a.descriptor))
+text (Mode (Err k)) = codes "mode " ++ (decimal (number k) ++ codes " - -")
+text (Open channel (Ok descriptor)) = codes "open " ++ (decimal channel ++ (codes " 0 " ++ decimal descriptor))
+text (Open channel (Err k)) = codes "open " ++ (decimal channel ++ (codes " " ++ (decimal (number k) ++ codes " -")))
+text (Close channel answer) = codes "close " ++ (decimal channel ++ (codes " " ++ decimal (answer_number answer)))
 text (Bad tag) = codes "bad " ++ decimal tag
 text Short = codes "short"
 

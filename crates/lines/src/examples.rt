@@ -2,6 +2,8 @@
 
 use super::line::Line;
 use super::push::push_line;
+use modes::Available;
+use refusals::Refusal;
 use std::test::Fail;
 
 #[test]
@@ -9,15 +11,15 @@ fn lines_follow_each_other(rt: HostRuntime) -> Result<(), Fail> {
     let mut out = String::new(rt.alloc());
     let set = Line::Set {
         sequence: 255,
-        refusal: 10,
+        answer: Err(Refusal::Undefined),
     };
     push_line(&mut out, set)?;
-    let mode = Line::Mode {
+    let available = Available {
         place: 0,
         descriptor: 12,
     };
-    push_line(&mut out, mode)?;
-    push_line(&mut out, Line::NoMode { refusal: 18 })?;
+    push_line(&mut out, Line::Mode(Ok(available)))?;
+    push_line(&mut out, Line::Mode(Err(Refusal::ModeUnavailable)))?;
     push_line(&mut out, Line::Bad(9))?;
     push_line(&mut out, Line::Short)?;
     assert!(rt; out.as_str() == "set 255 10\nmode 0 0 12\nmode 18 - -\nbad 9\nshort\n");
@@ -29,17 +31,17 @@ fn opens_and_closes_follow_each_other(rt: HostRuntime) -> Result<(), Fail> {
     let mut out = String::new(rt.alloc());
     let open = Line::Open {
         channel: 65535,
-        descriptor: 3,
+        answer: Ok(3),
     };
     push_line(&mut out, open)?;
-    let no_open = Line::NoOpen {
+    let refused = Line::Open {
         channel: 103,
-        refusal: 15,
+        answer: Err(Refusal::NotAvailable { rows: 2 }),
     };
-    push_line(&mut out, no_open)?;
+    push_line(&mut out, refused)?;
     let close = Line::Close {
         channel: 256,
-        refusal: 0,
+        answer: Ok(()),
     };
     push_line(&mut out, close)?;
     assert!(rt; out.as_str() == "open 65535 0 3\nopen 103 15 -\nclose 256 0\n");

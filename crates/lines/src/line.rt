@@ -1,17 +1,30 @@
 //! What a line says.
 
-/// The answer to a set message, where refusal 0 is success; the answer to a mode message, the place of the
-/// mode and its descriptor, or the refusal; the answer to an open, the channel and its descriptor, or the
-/// channel and the refusal; the answer to a close, where refusal 0 is success; the tag of a bad record; or
-/// a short rest.
+use modes::Available;
+use refusals::Refusal;
+
+/// What the bench says of a piece of its input, or of an open or a close.
 #[derive(Clone, Copy)]
 pub enum Line {
-    Set { sequence: u8, refusal: u8 },
-    Mode { place: u8, descriptor: u8 },
-    NoMode { refusal: u8 },
-    Open { channel: u16, descriptor: u8 },
-    NoOpen { channel: u16, refusal: u8 },
-    Close { channel: u16, refusal: u8 },
+    /// The answer to the set message of this sequence number.
+    Set {
+        sequence: u8,
+        answer: Result<(), Refusal>,
+    },
+    /// The answer to a mode message.
+    Mode(Result<Available, Refusal>),
+    /// The answer to an open of the channel, with its descriptor.
+    Open {
+        channel: u16,
+        answer: Result<u8, Refusal>,
+    },
+    /// The answer to a close of the channel.
+    Close {
+        channel: u16,
+        answer: Result<(), Refusal>,
+    },
+    /// The tag of a bad record.
     Bad(u8),
+    /// A short rest.
     Short,
 }

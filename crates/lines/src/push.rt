@@ -11,8 +11,5 @@ use std::alloc::AllocError;
 pub fn push_line(out: &mut String, line: Line) -> Result<(), AllocError>
     ensures { OnOk result (string_bytes out.new ≡ string_bytes out.old ++ ended line) }
 {
-    match writeln!(out, "{line}") {
-        Ok(()) => Ok(()),
-        Err(_) => Err(AllocError),
-    }
+    writeln!(out, "{line}")
 }

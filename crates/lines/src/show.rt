@@ -1,25 +1,36 @@
 //! The text of a line, without its line feed.
 
-ghost use Rattle.std.specs.Prelude.{Some};
-ghost use Rattle.lines.specs.Text.{text};
+ghost use Rattle.std.specs.Prelude.{◌≡◌, Some};
+ghost use Rattle.lines.specs.Text.{answer_number, text};
 
 use super::line::Line;
+use refusals::Refusal;
 use std::fmt;
+
+// The number of an answer that says no more: 0 for success.
+fn number_of(answer: Result<(), Refusal>) -> u8
+    ensures { result ≡ answer_number answer }
+{
+    answer.err().map_or(0, Refusal::number)
+}
 
 impl fmt::Display for Line {
     ghost output = { λ l. Some (text l) };
 
     fn fmt<W: fmt::Write>(&self, f: &mut fmt::Formatter<W>) -> fmt::Result {
         match *self {
-            Line::Set { sequence, refusal } => write!(f, "set {sequence} {refusal}"),
-            Line::Mode { place, descriptor } => write!(f, "mode 0 {place} {descriptor}"),
-            Line::NoMode { refusal } => write!(f, "mode {refusal} - -"),
+            Line::Set { sequence, answer } => write!(f, "set {sequence} {}", number_of(answer)),
+            Line::Mode(Ok(mode)) => write!(f, "mode 0 {} {}", mode.place, mode.descriptor),
+            Line::Mode(Err(refusal)) => write!(f, "mode {} - -", refusal.number()),
             Line::Open {
                 channel,
-                descriptor,
+                answer: Ok(descriptor),
             } => write!(f, "open {channel} 0 {descriptor}"),
-            Line::NoOpen { channel, refusal } => write!(f, "open {channel} {refusal} -"),
-            Line::Close { channel, refusal } => write!(f, "close {channel} {refusal}"),
+            Line::Open {
+                channel,
+                answer: Err(refusal),
+            } => write!(f, "open {channel} {} -", refusal.number()),
+            Line::Close { channel, answer } => write!(f, "close {channel} {}", number_of(answer)),
             Line::Bad(tag) => write!(f, "bad {tag}"),
             Line::Short => write!(f, "short"),
         }

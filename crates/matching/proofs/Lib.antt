@@ -3,5 +3,6 @@ pub mod Count
 pub mod Hall
 pub mod Bits
 pub mod Steps
+pub mod Groups
 pub mod Moves
 pub mod Turns

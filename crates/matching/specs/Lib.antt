@@ -4,3 +4,4 @@ pub mod Masks
 pub mod Steps
 pub mod Calls
 pub mod Verdicts
+pub mod Seats

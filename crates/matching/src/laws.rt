@@ -3,8 +3,6 @@
 ghost use Rattle.matching.specs.Board.{BlockRefutes};
 
 /// A blocking group and a seating exclude each other.
-pub fn blocks_refute() -> u8
+pub fn blocks_refute()
     ensures { BlockRefutes }
-{
-    0
-}
+{}

@@ -3,13 +3,13 @@
 
 #![tactic(auto)]
 
+mod block;
 mod laws;
 mod masks;
 mod placing;
 mod seats;
-mod verdict;
 
+pub use block::Block;
 pub use laws::blocks_refute;
-pub use masks::{has, mask_at, put_mask, with};
+pub use masks::{has, mask_at, mask_where, put_mask, with};
 pub use placing::place;
-pub use verdict::Verdict;

@@ -30,9 +30,13 @@ module _ (covers : Capability → Proposal → Bool) (t : Standing) where
   abbrev pub carry_checks : List (List Proposal) → List Check
   carry_checks modes = check ModeUnavailable ((k n : ℕ) × (ps : List Proposal) × At ps modes k × CarriedMode ps n) ∷ []
 
-  -- The checks of a mode request, in their order: the scratch, those of any message, and that one of its modes is carried.
+  -- The checks of a mode request once there is memory to work in, in their order: those of any message, and that one of its modes is carried.
+  abbrev pub checks_in : List ℕ → List Check
+  checks_in octets = message_checks Modes octets ++ carry_checks (modes_in (message octets))
+
+  -- The checks of a mode request, in their order: the scratch, then these.
   abbrev pub mode_checks : List ℕ → List ℕ → List Check
-  mode_checks octets scratch = scratch_checks scratch ++ (message_checks Modes octets ++ carry_checks (modes_in (message octets)))
+  mode_checks octets scratch = scratch_checks scratch ++ checks_in octets
 
   -- A request that passes every check, and its answer.
   pub record Granted (octets scratch : List ℕ) (a : Available) : Type 0 where

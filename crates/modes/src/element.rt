@@ -8,11 +8,12 @@ ghost use Rattle.modes.specs.Elements.{rows_from};
 
 use bounded::Bounded;
 use judges::Proposal;
+use keyed::ByNumber;
 use records::{Cursor, Said};
-use search::{NumberedRow, Row};
+use search::Row;
 
 /// An element of a mode: its place in the mode, from 0, and its proposal.
-#[derive(Clone, Copy)]
+#[derive(Clone, Copy, Default)]
 pub struct Element {
     pub place: u16,
     pub proposal: Proposal,
@@ -26,8 +27,8 @@ impl Row for Element {
     }
 }
 
-impl NumberedRow for Element {
-    ghost named = { λ e. e.place };
+impl ByNumber for Element {
+    ghost key = { λ e. e.place };
 
     fn number(&self) -> u16 {
         self.place
@@ -35,26 +36,16 @@ impl NumberedRow for Element {
 }
 
 /// The elements that follow at once.
+// Apart from table's `sets_after`: one function told the variant by a closure reads no plainer.
 pub(crate) fn elements_after(message: Cursor) -> Bounded<Element, 16>
     requires { length (elements_in (says message)) ≤ 16 }
     ensures { items result ≡ rows_from 0 (elements_in (says message.entry)) }
 {
-    let fill = Element {
-        place: 0,
-        proposal: Proposal {
-            kind: 0,
-            p: 0,
-            q: 0,
-        },
-    };
-    let mut list = Bounded::new(fill);
     let mut left = message;
-    while let Some(said) = left.read() {
-        let Said::Element(proposal) = said else {
-            return list;
-        };
+    let mut list = Bounded::default();
+    while let Some(Said::Element(proposal)) = left.read() {
         let place = list.len() as u16;
-        let _room = list.push(Element { place, proposal });
+        list.push(Element { place, proposal }).unwrap();
     }
     list
 }

@@ -3,8 +3,6 @@
 ghost use Rattle.modes.specs.Requests.{OneMode};
 
 /// A judge, what stands in a table and a message have one answer.
-pub fn one_mode() -> u8
+pub fn one_mode()
     ensures { OneMode }
-{
-    0
-}
+{}

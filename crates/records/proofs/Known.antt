@@ -1,10 +1,11 @@
 -- What is known of what a record says: its tag, and the fields of one that is in range.
 use Rattle.std.proofs.Common.{◌≡◌, ℕ, ◌+◌, ◌*◌, ◌≤◌, min, Bool, true, false, cond, not, ◌&&◌, eqb, leb, List, [], ◌∷◌, map, length, get_or, drop, sym, refl, ap, ◌∙◌, subst, inl, inr, arith}
 use Rattle.std.specs.List.{list_all}
-use Rattle.std.proofs.lemmas.Bool.{cases_eq, eqb-false, not-true, leb-true, le-leb, and_parts, and_from, ne_eqb, cond-false, both_ways}
+use Rattle.std.proofs.lemmas.Bool.{cases_eq, eqb-false, not-true, leb-true, le-leb, and_parts, and_from, ne_eqb, both_ways}
 use Rattle.records.specs.Layout.{Rec, begin, entry, removed, descriptor, alternatives, end, mode, element, other, rec_of, be16, be32, shorts, all_zero, all_named, in_range, all_in_range}
 use Rattle.records.specs.Reads.{says_of, tags}
 use Rattle.records.proofs.Rows.{length-shorts}
+use Rattle.records.proofs.Tags.{no_case}
 
 abbrev pub tag_of : Rec → ℕ
 tag_of (begin s) = 1
@@ -65,7 +66,7 @@ by_tag P a b c d e f g h none t =
 tag_by : (o : List ℕ) (t : ℕ) → tag_of (rec_by o t) ≡ t
 tag_by o = by_tag (λ t. tag_of (rec_by o t) ≡ t) refl refl refl refl refl refl refl refl
     (λ t a b c d e f g h.
-    ap tag_of (cond-false (eqb t 1) _ _ a ∙ cond-false (eqb t 2) _ _ b ∙ cond-false (eqb t 3) _ _ c ∙ cond-false (eqb t 4) _ _ d ∙ cond-false (eqb t 5) _ _ e ∙ cond-false (eqb t 6) _ _ f ∙ cond-false (eqb t 7) _ _ g ∙ cond-false (eqb t 8) (element (record { kind = get_or o 1 0; p = be32 o 4; q = be32 o 8 })) (other t) h))
+    ap tag_of (no_case t a b c d e f g h _ _ _ _ _ _ _ _ _))
 
 from_one : (n : ℕ) → not (eqb n 0) ≡ true → leb 1 n ≡ true
 from_one n e = le-leb 1 n (let k : n ≡ 0 → ⊥ = eqb-false n 0 (not-true (eqb n 0) e) in omega arith)
@@ -91,8 +92,7 @@ sound_by o = by_tag (λ t. range_by o t ≡ true → sound (rec_by o t) ≡ true
     (λ e. refl)
     (λ e. refl)
     (λ t a b c d e f g h u.
-    absurd (both_ways false refl
-    (sym (cond-false (eqb t 1) _ _ a ∙ cond-false (eqb t 2) _ _ b ∙ cond-false (eqb t 3) _ _ c ∙ cond-false (eqb t 4) _ _ d ∙ cond-false (eqb t 5) _ _ e ∙ cond-false (eqb t 6) _ _ f ∙ cond-false (eqb t 7) _ _ g ∙ cond-false (eqb t 8) (eqb (be16 o 2) 0 && all_zero (drop 12 o)) false h) ∙ u)))
+    absurd (both_ways false refl (sym (no_case t a b c d e f g h _ _ _ _ _ _ _ _ _) ∙ u)))
 
 pub tags_said : (os : List (List ℕ)) → map tag_of (says_of os) ≡ tags os
 unfolding says_of

@@ -1,7 +1,7 @@
 -- The records of octets, one after another.
-use Rattle.std.proofs.Common.{◌≡◌, ℕ, zero, suc, ◌+◌, ◌*◌, ◌/◌, ◌<◌, Bool, cond, ltb, List, [], ◌∷◌, ◌++◌, map, length, take, drop, sym, refl, ap, ◌∙◌, add-one, arith, lit<}
+use Rattle.std.proofs.Common.{◌≡◌, ℕ, zero, suc, min, ◌+◌, ◌/◌, ◌<◌, List, [], ◌∷◌, map, length, get_or, take, drop, sym, refl, ap, ◌∙◌, add-one, add-zero, arith, lit<}
 use native.Mathlib.Nat.{add-div_right, div-eq_of_lt}
-use Rattle.std.proofs.lemmas.Bool.{cond-true, lt-ltb}
+use Rattle.std.proofs.lemmas.List.{get_or-take, get_or-drop, drop-drop}
 use Rattle.std.specs.Simd.{first_chunks}
 use Rattle.records.specs.Layout.{shorts, be16, rec_of, Rec}
 use Rattle.records.specs.Reads.{rows_of, says_of}
@@ -24,22 +24,23 @@ pub says_more : (rs ts : List (List ℕ)) (o : List ℕ) (r : Rec) → rs ≡ o 
 unfolding says_of
 says_more rs ts o r e f = ap (map rec_of) e ∙ ap (λ (x : Rec). x ∷ map rec_of ts) (sym f)
 
--- one more number at the end
-pub shorts_more : (n at : ℕ) (o : List ℕ) → shorts (n + 1) at o ≡ shorts n at o ++ be16 o (at + 2 * n) ∷ []
-shorts_more n at o = ap (λ (k : ℕ). shorts k at o) (add-one n) ∙ go n at
-  where
-    go : (n at : ℕ) → shorts (suc n) at o ≡ shorts n at o ++ be16 o (at + 2 * n) ∷ []
-    go zero at = let e : at ≡ at + 2 * 0 = omega arith in ap (λ (k : ℕ). be16 o k ∷ []) e
-    go (suc n) at =
-        let e : (at + 2) + 2 * n ≡ at + 2 * suc n = omega arith in
-        ap (λ (t : List ℕ). be16 o at ∷ t) (go n (at + 2)) ∙ ap (λ (k : ℕ). be16 o at ∷ (shorts n (at + 2) o ++ be16 o k ∷ [])) e
-
 pub length-shorts : (n at : ℕ) (o : List ℕ) → length (shorts n at o) ≡ n
 length-shorts zero at o = refl
 length-shorts (suc n) at o = ap suc (length-shorts n (at + 2) o)
 
--- a push that has room
-pub pushed : (xs zs : List ℕ) (r : Bool) (x n at cap : ℕ) (o : List ℕ) → xs ≡ shorts n at o → zs ≡ cond r (xs ++ x ∷ []) xs → r ≡ ltb (length xs) cap → n < cap → x ≡ be16 o (at + 2 * n) → zs ≡ shorts (n + 1) at o
-pushed xs zs r x n at cap o e f t h v =
-    let l : length xs < cap = omega (arith, ap length e, length-shorts n at o) in
-    f ∙ cond-true r _ _ (t ∙ lt-ltb _ _ l) ∙ ap (λ (u : List ℕ). u ++ x ∷ []) e ∙ ap (λ (y : ℕ). shorts n at o ++ y ∷ []) v ∙ sym (shorts_more n at o)
+-- the numbers of n pairs of octets, of the k pairs from a place on
+pub pairs_shorts : (n k at : ℕ) (o : List ℕ) → map (λ (p : List ℕ). be16 p 0) (take n (first_chunks 2 k (drop at o))) ≡ shorts (min n k) at o
+pairs_shorts zero k at o = let e : 0 ≡ min 0 k = omega arith in ap (λ (m : ℕ). shorts m at o) e
+pairs_shorts (suc n) zero at o = let e : 0 ≡ min (suc n) 0 = omega arith in ap (λ (m : ℕ). shorts m at o) e
+pairs_shorts (suc n) (suc k) at o =
+    let high : get_or (take 2 (drop at o)) 0 0 ≡ get_or o at 0 = get_or-take 2 (drop at o) 0 0 (omega arith) ∙ get_or-drop at o 0 0 ∙ ap (λ (i : ℕ). get_or o i 0) (add-zero at) in
+    let low : get_or (take 2 (drop at o)) 1 0 ≡ get_or o (at + 1) 0 = get_or-take 2 (drop at o) 1 0 (omega arith) ∙ get_or-drop at o 1 0 in
+    let here : be16 (take 2 (drop at o)) 0 ≡ be16 o at = cc in
+    let there : map (λ (p : List ℕ). be16 p 0) (take n (first_chunks 2 k (drop 2 (drop at o)))) ≡ shorts (min n k) (at + 2) o = rw drop-drop (pairs_shorts n k (at + 2) o) in
+    let both : suc (min n k) ≡ min (suc n) (suc k) = omega arith in
+    ap (λ (m : ℕ). m ∷ map (λ (p : List ℕ). be16 p 0) (take n (first_chunks 2 k (drop 2 (drop at o))))) here
+    ∙ ap (λ (t : List ℕ). be16 o at ∷ t) there ∙ ap (λ (m : ℕ). shorts m at o) both
+
+-- the pairs of a record
+pub pairs_of : (o : List ℕ) (ps : List (List ℕ)) → length o ≡ 32 → ps ≡ first_chunks 2 (length o / 2) o → ps ≡ first_chunks 2 16 o
+pairs_of o ps w e = e ∙ ap (λ (n : ℕ). first_chunks 2 (n / 2) o) w

@@ -1,44 +1,41 @@
--- The test of order goes from tag to tag.
-use Rattle.std.proofs.Common.{◌≡◌, ℕ, zero, suc, ◌+◌, ◌-◌, ◌<◌, ◌≤◌, Bool, true, false, not, ◌&&◌, eqb, List, ◌∷◌, length, get_or, drop, Some, None, Option, sym, ap, ◌∙◌, arith, MatchOption}
-use Rattle.std.proofs.lemmas.List.{at_drop_more, at_drop_all}
-use Rattle.std.proofs.lemmas.Bool.{lt-ltb, le-ltb, eq-eqb, ne_eqb, cond-false}
+-- An octet that is no tag.
+use Rattle.std.proofs.Common.{◌≡◌, ℕ, false, cond, eqb, List, ◌∷◌, get_or, refl, sym, subst, ap, ◌∙◌}
+use Rattle.std.proofs.lemmas.Bool.{ne_eqb, cond-false}
+use Rattle.records.specs.declared.tag.Tag.TheVariants.{Begin, Entry, Removed, Descriptor, Alternatives, End, Mode, Element}
 use Rattle.records.specs.declared.stage.Stage.{Stage}
-use Rattle.records.specs.declared.stage.Stage.TheVariants.{Entries}
-use Rattle.records.specs.Layout.{all_zero, all_named, shorts, be16}
-use Rattle.records.specs.Order.{descriptors, entries}
+use Rattle.records.specs.declared.stage.Stage.TheVariants.{SetStart, Entries, Ended, ModeStart, Elements}
+use Rattle.records.specs.declared.stage.Stage.TheVariants as stage
+use Rattle.records.specs.Tag.{Unknown}
+use Rattle.records.specs.Layout.{other, rec_of, in_range}
+use Rattle.records.specs.Order.{descriptors}
 use Rattle.records.specs.Stages.{rest}
 
-pub room : (n t : ℕ) → t ≡ 5 → 0 < n → (ts : List ℕ) → descriptors n (t ∷ ts) ≡ descriptors (n - 1) ts
-room n t e h ts = ap (λ (k : ℕ). descriptors n (k ∷ ts)) e ∙ ap (λ (b : Bool). b && descriptors (n - 1) ts) (lt-ltb _ _ h)
+-- none of the cases of a tag is taken
+module _ {X : Type 0} (t : ℕ) where
+  pub no_case : eqb t 1 ≡ false → eqb t 2 ≡ false → eqb t 3 ≡ false → eqb t 4 ≡ false → eqb t 5 ≡ false → eqb t 6 ≡ false → eqb t 7 ≡ false → eqb t 8 ≡ false → (a b c d e f g h none : X)
+      → cond (eqb t 1) a (cond (eqb t 2) b (cond (eqb t 3) c (cond (eqb t 4) d (cond (eqb t 5) e (cond (eqb t 6) f (cond (eqb t 7) g (cond (eqb t 8) h none))))))) ≡ none
+  no_case i j k l m n o p a b c d e f g h none =
+      cond-false (eqb t 1) _ _ i ∙ cond-false (eqb t 2) _ _ j ∙ cond-false (eqb t 3) _ _ k ∙ cond-false (eqb t 4) _ _ l ∙ cond-false (eqb t 5) _ _ m ∙ cond-false (eqb t 6) _ _ n ∙ cond-false (eqb t 7) _ _ o ∙ cond-false (eqb t 8) h none p
 
-pub no_room : (n t : ℕ) → t ≡ 5 → n ≤ 0 → (ts : List ℕ) → descriptors n (t ∷ ts) ≡ false
-no_room n t e h ts = ap (λ (k : ℕ). descriptors n (k ∷ ts)) e ∙ ap (λ (b : Bool). b && descriptors (n - 1) ts) (le-ltb _ _ h)
+  no_tag : Unknown t → (a b c d e f g h none : X)
+      → cond (eqb t 1) a (cond (eqb t 2) b (cond (eqb t 3) c (cond (eqb t 4) d (cond (eqb t 5) e (cond (eqb t 6) f (cond (eqb t 7) g (cond (eqb t 8) h none))))))) ≡ none
+  no_tag u =
+      no_case (ne_eqb t 1 (u Begin)) (ne_eqb t 2 (u Entry)) (ne_eqb t 3 (u Removed)) (ne_eqb t 4 (u Descriptor)) (ne_eqb t 5 (u Alternatives)) (ne_eqb t 6 (u End)) (ne_eqb t 7 (u Mode)) (ne_eqb t 8 (u Element))
 
-pub stray : (n t : ℕ) → (t ≡ 4 → ⊥) → (t ≡ 5 → ⊥) → (t ≡ 6 → ⊥) → (ts : List ℕ) → descriptors n (t ∷ ts) ≡ false
-stray n t a b c ts = cond-false (eqb t 4) _ _ (ne_eqb _ _ a) ∙ cond-false (eqb t 5) _ _ (ne_eqb _ _ b) ∙ cond-false (eqb t 6) _ _ (ne_eqb _ _ c)
+stray : (n t : ℕ) (ts : List ℕ) → Unknown t → descriptors n (t ∷ ts) ≡ false
+stray n t ts u = cond-false (eqb t 4) _ _ (ne_eqb t 4 (u Descriptor)) ∙ cond-false (eqb t 5) _ _ (ne_eqb t 5 (u Alternatives)) ∙ cond-false (eqb t 6) _ _ (ne_eqb t 6 (u End))
 
-no_entry : (t : ℕ) → (t ≡ 2 → ⊥) → (t ≡ 3 → ⊥) → (ts : List ℕ) → entries (t ∷ ts) ≡ descriptors 0 (t ∷ ts)
-no_entry t a b ts = cond-false (eqb t 2) _ _ (ne_eqb _ _ a) ∙ cond-false (eqb t 3) _ _ (ne_eqb _ _ b)
+module _ (o : List ℕ) (t : ℕ) (is : t ≡ get_or o 0 0) (u : Unknown t) where
+  pub says_other : other t ≡ rec_of o
+  says_other = ap other is ∙ sym (no_tag _ (subst Unknown is u) _ _ _ _ _ _ _ _ _)
 
-pub past_entries : (st : Stage) (t : ℕ) (o : Option Stage) → st ≡ Entries → (t ≡ 2 → ⊥) → (t ≡ 3 → ⊥)
-    → MatchOption o ((ts : List ℕ) → descriptors 0 (t ∷ ts) ≡ false) (λ s. (ts : List ℕ) → descriptors 0 (t ∷ ts) ≡ rest s ts)
-    → MatchOption o ((ts : List ℕ) → rest st (t ∷ ts) ≡ false) (λ s. (ts : List ℕ) → rest st (t ∷ ts) ≡ rest s ts)
-past_entries st t None e a b h = λ ts. ap (λ (u : Stage). rest u (t ∷ ts)) e ∙ no_entry t a b ts ∙ h ts
-past_entries st t (Some s) e a b h = λ ts. ap (λ (u : Stage). rest u (t ∷ ts)) e ∙ no_entry t a b ts ∙ h ts
+  pub out_of_range : false ≡ in_range o
+  out_of_range = sym (no_tag _ (subst Unknown is u) _ _ _ _ _ _ _ _ _)
 
-module _ (xs : List ℕ) (i : ℕ) where
-  pub zero_stops : i < length xs → (get_or xs i 0 ≡ 0 → ⊥) → all_zero (drop i xs) ≡ false
-  zero_stops h e = at_drop_more all_zero xs i 0 h ∙ ap (λ (t : Bool). t && all_zero (drop (i + 1) xs)) (ne_eqb _ _ e)
-
-  pub zero_goes : i < length xs → get_or xs i 0 ≡ 0 → all_zero (drop (i + 1) xs) ≡ all_zero (drop i xs)
-  zero_goes h e = sym (at_drop_more all_zero xs i 0 h ∙ ap (λ (t : Bool). t && all_zero (drop (i + 1) xs)) (eq-eqb _ _ e))
-
-  pub zero_ends : length xs ≤ i → all_zero (drop i xs) ≡ true
-  zero_ends h = at_drop_all all_zero xs i h
-
-pub named_stops : (n at : ℕ) (o : List ℕ) → 0 < n → be16 o at ≡ 0 → all_named (shorts n at o) ≡ false
-named_stops zero at o h e = absurd (omega arith)
-named_stops (suc n) at o h e = ap (λ (t : Bool). not t && all_named (shorts n (at + 2) o)) (eq-eqb _ _ e)
-
-pub named_goes : (n k at : ℕ) (o : List ℕ) → n ≡ suc k → (be16 o at ≡ 0 → ⊥) → all_named (shorts k (at + 2) o) ≡ all_named (shorts n at o)
-named_goes n k at o q e = sym (ap (λ (m : ℕ). all_named (shorts m at o)) q ∙ ap (λ (t : Bool). not t && all_named (shorts k (at + 2) o)) (ne_eqb _ _ e))
+pub out_of_order : (st : Stage) (t : ℕ) (ts : List ℕ) → Unknown t → rest st (t ∷ ts) ≡ false
+out_of_order SetStart t ts u = cond-false (eqb t 1) _ _ (ne_eqb t 1 (u Begin))
+out_of_order Entries t ts u = cond-false (eqb t 2) _ _ (ne_eqb t 2 (u Entry)) ∙ cond-false (eqb t 3) _ _ (ne_eqb t 3 (u Removed)) ∙ stray 0 t ts u
+out_of_order (stage.Alternatives n) t ts u = stray n t ts u
+out_of_order Ended t ts u = refl
+out_of_order ModeStart t ts u = cond-false (eqb t 7) _ _ (ne_eqb t 7 (u Mode))
+out_of_order (Elements m n) t ts u = cond-false (eqb t 8) _ _ (ne_eqb t 8 (u Element)) ∙ cond-false (eqb t 7) _ _ (ne_eqb t 7 (u Mode))

@@ -1,5 +1,6 @@
 -- What the octets of a record say.
-use Rattle.std.specs.Prelude.{ℕ, zero, suc, ◌+◌, ◌*◌, ◌%◌, min, Bool, true, false, cond, not, ◌&&◌, List, [], ◌∷◌, drop, ◌==◌, nat_le, nat_lt, slice_index}
+use Rattle.std.specs.Prelude.{ℕ, zero, suc, ◌+◌, ◌*◌, ◌%◌, min, Bool, false, cond, not, ◌&&◌, List, [], ◌∷◌, drop, ◌==◌, nat_le, nat_lt, slice_index}
+use Rattle.std.specs.List.{list_all}
 use Rattle.judges.specs.declared.words.Capability.{Capability}
 use Rattle.judges.specs.declared.words.Proposal.{Proposal}
 
@@ -44,13 +45,11 @@ abbrev pub fitting : ℕ → ℕ → Bool
 fitting most n = nat_lt 0 n && n % 32 == 0 && nat_le n most
 
 abbrev pub all_zero : List ℕ → Bool
-all_zero [] = true
-all_zero (x ∷ xs) = x == 0 && all_zero xs
+all_zero xs = list_all (λ x. x == 0) xs
 
 -- entry numbers are 1 or more
 abbrev pub all_named : List ℕ → Bool
-all_named [] = true
-all_named (n ∷ ns) = not (n == 0) && all_named ns
+all_named ns = list_all (λ n. not (n == 0)) ns
 
 -- each field is in its range, and each octet without a name is zero
 abbrev pub in_range : List ℕ → Bool
@@ -65,5 +64,4 @@ in_range o =
     (cond (slice_index o 0 == 8) (be16 o 2 == 0 && all_zero (drop 12 o)) false)))))))
 
 abbrev pub all_in_range : List (List ℕ) → Bool
-all_in_range [] = true
-all_in_range (o ∷ os) = in_range o && all_in_range os
+all_in_range os = list_all in_range os

@@ -1,3 +1,4 @@
+pub mod Tag
 pub mod Layout
 pub mod Order
 pub mod Stages

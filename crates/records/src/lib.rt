@@ -8,6 +8,8 @@ mod held;
 mod order;
 mod read;
 mod stage;
+mod tag;
 
 pub use check::{check_message, orders_stand};
 pub use held::{Cursor, Form, Record, Said};
+pub use tag::{Tag, UnknownTag};

@@ -2,10 +2,9 @@
 use Rattle.std.specs.Prelude.{◌≡◌, ℕ, ◌≤◌, List, [], length, Ok, Err, Result, MatchResult, slice_index}
 use Rattle.cutting.specs.Cut.{Kind, set_message, mode_message, bad_record, short_rest, Portion}
 use Rattle.lines.specs.declared.line.Line.{Line}
-use Rattle.lines.specs.declared.line.Line.TheVariants.{Set, Mode, NoMode, Bad, Short}
+use Rattle.lines.specs.declared.line.Line.TheVariants.{Set, Mode, Bad, Short}
 use Rattle.refusals.specs.declared.refusal.Refusal.{Refusal}
 use Rattle.refusals.specs.Checks.{First}
-use Rattle.refusals.specs.Number.{number}
 use Rattle.judges.specs.Tests.{standard_lawful, standard_covers}
 use Rattle.modes.specs.declared.available.Available.{Available}
 use Rattle.modes.specs.Requests.{Granted, mode_checks}
@@ -13,10 +12,10 @@ use Rattle.table.specs.declared.standing.Table.{Table}
 use Rattle.table.specs.Sets.{Sets, standing, entries_of, descriptors_of}
 use Rattle.replay.specs.Told.{Prints}
 
--- the number that a line has for an answer of the table: 0 for success
-abbrev pub refusal : Result ℕ Refusal → ℕ
-refusal (Ok n) = 0
-refusal (Err k) = number k
+-- what a line has of an answer of the table: success, or the refusal
+abbrev pub refusal : Result ℕ Refusal → Result Unit Refusal
+refusal (Ok n) = Ok tt
+refusal (Err k) = Err k
 
 -- the answer to a mode message on a table, in scratch memory that is long enough
 abbrev pub Asks : List ℕ → Table → Result Available Refusal → Type 0
@@ -26,8 +25,7 @@ Asks octets s r =
 
 -- the line of that answer
 abbrev pub line_of_mode : Result Available Refusal → Line
-line_of_mode (Ok a) = Mode a.place a.descriptor
-line_of_mode (Err k) = NoMode (number k)
+line_of_mode r = Mode r
 
 -- a piece of a kind leads from the table s to t, and l is its line
 abbrev pub Does : Kind → List ℕ → Table → Line → Table → Type 0

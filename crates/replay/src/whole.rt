@@ -4,7 +4,7 @@ ghost use Rattle.std.specs.Prelude.{◌≡◌, ℕ, List, IfOk, string_bytes};
 ghost use Rattle.replay.specs.Bench.{Printed};
 
 use super::step::perform;
-use cutting::cut;
+use cutting::Pieces;
 use lines::push_line;
 use std::alloc::{AllocError, Global};
 use table::Table;
@@ -16,11 +16,8 @@ pub fn run(heap: Global, input: &[u8]) -> Result<String, AllocError>
 {
     let mut table = Table::new();
     let mut out = String::new(heap);
-    let mut left = input;
-    while let Some((piece, rest)) = cut(left) {
-        let line = perform(&mut table, piece);
-        push_line(&mut out, line)?;
-        left = rest;
+    for piece in Pieces::of(input) {
+        push_line(&mut out, perform(&mut table, piece))?;
     }
     Ok(out)
 }

@@ -1,23 +1,22 @@
 -- From the boards of the matching to the sets and proposals of the subject, and back.
-use Rattle.std.proofs.Common.{◌≡◌, ℕ, zero, suc, ◌+◌, ◌<◌, Bool, true, false, cond, ◌&&◌, ◌||◌, List, [], ◌∷◌, length, sym, refl, ap, ◌∙◌, subst, inl, inr, arith}
-use Rattle.std.proofs.lemmas.Bool.{cases_Bool, cond-true, cond-false}
+use Rattle.std.proofs.Common.{◌≡◌, ℕ, zero, suc, ◌+◌, ◌*◌, ◌<◌, Bool, true, cond, ◌&&◌, ◌||◌, List, [], ◌∷◌, length, sym, refl, ap, ◌∙◌, subst, arith}
+use Rattle.std.proofs.lemmas.Bool.Decides.{nat_tests}
 use Rattle.bounded.specs.Bit.{bit}
 use Rattle.judges.specs.declared.words.Proposal.{Proposal}
 use Rattle.matching.specs.Board as board
 use Rattle.matching.specs.Board.{count, any, reach}
-use Rattle.matching.specs.Calls.{tall, at}
+use Rattle.matching.specs.Calls.{tall}
 use Rattle.matching.specs.Masks.{can}
 use Rattle.matching.specs.Steps.{Placed}
-use Rattle.matching.specs.Verdicts.{Judged}
-use Rattle.matching.specs.declared.verdict.Verdict.{Verdict}
-use Rattle.matching.specs.declared.verdict.Verdict.TheVariants.{Carried, Blocked}
+use Rattle.matching.specs.Verdicts.{Blocked}
+use Rattle.matching.specs.declared.block.Block.{Block}
 use Rattle.matching.proofs.Count.{count_same}
 use Rattle.matching.proofs.Hall.{block_refutes}
-use Rattle.matching.proofs.Steps.{placed_carry}
 use Rattle.search.specs.Carrying.{Carries, grouped, used_by, Blocks, BlockRefutes}
 use Rattle.search.specs.Filling.{uses}
-use Rattle.search.specs.Settling.{Arranged, Settled}
+use Rattle.search.specs.Settling.{BlockedBy}
 use Rattle.search.specs.Lists.{At, some_pass, how_many, passes_at}
+pub use Rattle.search.proofs.Places.{at_some}
 use Rattle.search.proofs.Places.{pass_at, pass_some}
 
 -- counting from the first place on
@@ -25,29 +24,18 @@ count_first : (P : ℕ → Bool) (n : ℕ) → count P (suc n) ≡ cond (P 0) 1 
 count_first P zero = refl
 count_first P (suc n) = let i = count_first P n in omega arith
 
-or_turn : (a b c : Bool) → (a || (b || c)) ≡ (b || (a || c))
-or_turn true true c = refl
-or_turn true false c = refl
-or_turn false b c = refl
-
 any_first : (P : ℕ → Bool) (n : ℕ) → any P (suc n) ≡ (P 0 || any (λ k. P (suc k)) n)
 any_first P zero = refl
-any_first P (suc n) = ap (λ (b : Bool). P (suc n) || b) (any_first P n) ∙ or_turn (P (suc n)) (P 0) (any (λ k. P (suc k)) n)
+any_first P (suc n) = grind (arith, nat_tests, any_first P n)
 
 any_same : (P Q : ℕ → Bool) (n : ℕ) → ((s : ℕ) → s < n → P s ≡ Q s) → any P n ≡ any Q n
 any_same P Q zero h = refl
-any_same P Q (suc n) h = ap (λ (b : Bool). b || any P n) (h n (omega arith)) ∙ ap (λ (b : Bool). Q n || b) (any_same P Q n (λ s l. h s (omega arith)))
+any_same P Q (suc n) h = grind (arith, nat_tests, h n (omega arith), any_same P Q n (λ s l. h s (omega arith)))
 
 -- the size of a group
 grouped_size : (g : ℕ → Bool) (ps : List Proposal) → length (grouped g ps) ≡ count g (length ps)
 grouped_size g [] = refl
-grouped_size g (p ∷ ps) =
-    let i = grouped_size (λ k. g (suc k)) ps in
-    let f = count_first g (length ps) in
-    elim (cases_Bool (g 0)) [
-      | inl t ↦ let a = ap length (cond-true (g 0) (p ∷ grouped (λ k. g (suc k)) ps) (grouped (λ k. g (suc k)) ps) t) in let b = cond-true {A = ℕ} (g 0) 1 0 t in omega arith
-      | inr t ↦ let a = ap length (cond-false (g 0) (p ∷ grouped (λ k. g (suc k)) ps) (grouped (λ k. g (suc k)) ps) t) in let b = cond-false {A = ℕ} (g 0) 1 0 t in omega arith
-    ]
+grouped_size g (p ∷ ps) = grind (arith, nat_tests, grouped_size (λ k. g (suc k)) ps, count_first g (length ps))
 
 -- how many pass, by places
 many_count : {X : Type 0} (f : X → Bool) (xs : List X) → how_many f xs ≡ count (passes_at f xs) (length xs)
@@ -57,23 +45,7 @@ many_count f (x ∷ xs) = let i = many_count f xs in let c = count_first (passes
 -- whether one of a group passes, by places
 used_any : (f : Proposal → Bool) (g : ℕ → Bool) (ps : List Proposal) → some_pass f (grouped g ps) ≡ any (λ r. g r && passes_at f ps r) (length ps)
 used_any f g [] = refl
-used_any f g (p ∷ ps) =
-    elim (cases_Bool (g 0)) [
-      | inl t ↦
-          ap (some_pass f) (cond-true (g 0) (p ∷ grouped (λ k. g (suc k)) ps) (grouped (λ k. g (suc k)) ps) t)
-          ∙ ap (λ (b : Bool). f p || b) (used_any f (λ k. g (suc k)) ps)
-          ∙ sym (any_first (λ r. g r && passes_at f (p ∷ ps) r) (length ps) ∙ ap (λ (b : Bool). (b && f p) || any (λ k. g (suc k) && passes_at f ps k) (length ps)) t)
-      | inr t ↦
-          ap (some_pass f) (cond-false (g 0) (p ∷ grouped (λ k. g (suc k)) ps) (grouped (λ k. g (suc k)) ps) t)
-          ∙ used_any f (λ k. g (suc k)) ps
-          ∙ sym (any_first (λ r. g r && passes_at f (p ∷ ps) r) (length ps) ∙ ap (λ (b : Bool). (b && f p) || any (λ k. g (suc k) && passes_at f ps k) (length ps)) t)
-    ]
-
--- something stands at each place
-pub at_some : {X : Type 0} (xs : List X) (k : ℕ) → k < length xs → (x : X) × At x xs k
-at_some [] k l = absurd (omega arith)
-at_some (x ∷ xs) zero l = (x, (omega arith, refl))
-at_some (x ∷ xs) (suc k) l = let h = at_some xs k (omega arith) in (h.0, (omega (arith, h.1.0), h.1.1))
+used_any f g (p ∷ ps) = grind (arith, nat_tests, used_any f (λ k. g (suc k)) ps, any_first (λ r. g r && passes_at f (p ∷ ps) r) (length ps))
 
 module _ (fit : List ℕ → Proposal → Bool) (sets : List (List ℕ)) (ps : List Proposal) where
   -- the row and the set that stand at the places
@@ -134,16 +106,21 @@ module _ (one may : ℕ → ℕ → Bool) (n m : ℕ) (same : (r s : ℕ) → r 
   pub blocks_same : (g : ℕ → Bool) → board.Blocks one n m g → board.Blocks may n m g
   blocks_same g b = let k = reach_same g in (b.0, omega (arith, b.1))
 
--- a verdict of the matching on a board that says the same
-pub arranged : (bs holder : List ℕ) (may : ℕ → ℕ → Bool) (n m j : ℕ) (v : Verdict) → tall bs ≡ n → j ≡ m → ((r s : ℕ) → r < n → can bs r s ≡ may r s) → Judged bs j holder v → Arranged may n m (at holder) v
-arranged bs holder may n m j Carried e f same p =
-    let q : Placed (can bs) n m (at holder) n = subst (λ x. Placed (can bs) x m (at holder) x) e (subst (λ x. Placed (can bs) (tall bs) x (at holder) (tall bs)) f p) in
-    record { own = q.own; fit = λ s l h. sym (same (at holder s) s h) ∙ q.fit s l h; upto = q.upto; below = q.below }
-arranged bs holder may n m j (Blocked g k) e f same b =
-    let c : board.Blocks (can bs) n m (bit g) = subst (λ x. board.Blocks (can bs) x m (bit g)) e (subst (λ x. board.Blocks (can bs) (tall bs) x (bit g)) f b.0) in
-    let d : k ≡ count (reach (can bs) n (bit g)) m = subst (λ x. k ≡ count (reach (can bs) x (bit g)) m) e (subst (λ x. k ≡ count (reach (can bs) (tall bs) (bit g)) x) f b.2) in
-    record { blocks = blocks_same (can bs) may n m same (bit g) c; inside = λ q t. subst (λ x. q < x) e (b.1 q t); sets = d ∙ reach_same (can bs) may n m same (bit g) }
+-- what the matching answers of a board that says the same
+module _ (bs : List ℕ) (may : ℕ → ℕ → Bool) (n m j : ℕ) (rows : length bs ≡ 2 * n) (sets : j ≡ m) (same : (r s : ℕ) → r < n → can bs r s ≡ may r s) where
+  high : tall bs ≡ n
+  high = omega (arith, rows)
 
-pub settled : (may : ℕ → ℕ → Bool) (n m : ℕ) (H : ℕ → ℕ) (v : Verdict) → Arranged may n m H v → Settled may n m v
-settled may n m H Carried p = placed_carry may n m H p
-settled may n m H (Blocked g k) b = b
+  pub placed_same : (holders : ℕ → ℕ) → Placed (can bs) (tall bs) j holders (tall bs) → Placed may n m holders n
+  placed_same holders p =
+      let q : Placed (can bs) n m holders n = subst (λ x. Placed (can bs) x m holders x) high (subst (λ x. Placed (can bs) (tall bs) x holders (tall bs)) sets p) in
+      record { own = q.own; fit = λ s l h. sym (same (holders s) s h) ∙ q.fit s l h; upto = q.upto; below = q.below }
+
+  pub blocked_same : (b : Block) → Blocked bs j b → BlockedBy may n m b.group b.sets
+  blocked_same b p =
+      let q : Blocked bs m b = subst (λ x. Blocked bs x b) sets p in
+      record {
+        blocks = blocks_same (can bs) may n m same (bit b.group) (subst (λ x. board.Blocks (can bs) x m (bit b.group)) high q.0);
+        inside = λ r t. subst (λ x. r < x) high (q.1 r t);
+        sets = subst (λ x. b.sets ≡ count (reach (can bs) x (bit b.group)) m) high q.2 ∙ reach_same (can bs) may n m same (bit b.group);
+      }

@@ -1,7 +1,8 @@
 -- Of more rows than any descriptor has sets, the first show that none carries them.
-use Rattle.std.proofs.Common.{◌≡◌, ℕ, zero, suc, ◌<◌, ◌≤◌, Bool, true, cond, List, [], ◌∷◌, length, take, sym, refl, ap, ◌∙◌, subst, inl, inr, arith}
-use Rattle.std.proofs.lemmas.List.{length-map, length-take-le}
-use Rattle.std.proofs.lemmas.Bool.{cases_Bool, cond-false}
+use Rattle.std.proofs.Common.{◌≡◌, ℕ, zero, suc, ◌<◌, ◌≤◌, min, Bool, true, cond, List, [], ◌∷◌, length, take, sym, refl, ap, subst, inl, inr, arith}
+use Rattle.std.proofs.lemmas.List.{length-map, length-take-le, take_all}
+use Rattle.std.proofs.lemmas.Bool.Decides.{nat_tests}
+use Rattle.std.proofs.lemmas.Bool.{cases_lt}
 use Rattle.bounded.specs.Bit.{bit}
 use Rattle.bounded.specs.Items.{items}
 use Rattle.bounded.proofs.Most.{items_most}
@@ -25,21 +26,20 @@ count_all : (n : ℕ) → count (λ _. true) n ≡ n
 count_all zero = refl
 count_all (suc n) = omega (arith, count_all n)
 
+-- no more rows have sets of their own than there are sets
+pub own_few : (f : ℕ → ℕ) (n m : ℕ) → ((r : ℕ) → r < n → f r < m) → ((r q : ℕ) → r < n → q < n → f r ≡ f q → r ≡ q) → n ≤ m
+own_few f n m within own =
+    let few = count_inj (λ _. true) (λ _. true) f n m (λ r l _. (within r l, refl)) (λ r q lr lq _ _. own r q lr lq) in
+    omega (arith, count_all n, count_all m)
+
 -- no more rows are carried than there are sets
 pub carries_few : (fit : List ℕ → Proposal → Bool) (sets : List (List ℕ)) (ps : List Proposal) → Carries fit sets ps → length ps ≤ length sets
-carries_few fit sets ps c =
-    let few = count_inj (λ _. true) (λ _. true) c.seat (length ps) (length sets)
-    (λ r l _. let p = at_some ps r l in ((c.fits r p.0 p.1).1.0, refl))
-    (λ r q lr lq _ _. c.own r q lr lq) in
-    omega (arith, count_all (length ps), count_all (length sets))
+carries_few fit sets ps c = own_few c.seat (length ps) (length sets) (λ r l. let p = at_some ps r l in (c.fits r p.0 p.1).1.0) c.own
 
 -- a group within the first n
 grouped_none : (g : ℕ → Bool) (ps : List Proposal) → ((q : ℕ) → g q ≡ true → ⊥) → grouped g ps ≡ []
 grouped_none g [] none = refl
-grouped_none g (p ∷ ps) none = elim (cases_Bool (g 0)) [
-  | inl e ↦ absurd (none 0 e)
-  | inr e ↦ cond-false (g 0) (p ∷ grouped (λ k. g (suc k)) ps) (grouped (λ k. g (suc k)) ps) e ∙ grouped_none (λ k. g (suc k)) ps (λ q. none (suc q))
-]
+grouped_none g (p ∷ ps) none = grind (arith, nat_tests, none 0, grouped_none (λ k. g (suc k)) ps (λ q. none (suc q)))
 
 grouped_front : (n : ℕ) (g : ℕ → Bool) (ps : List Proposal) → ((q : ℕ) → g q ≡ true → q < n) → grouped g (take n ps) ≡ grouped g ps
 grouped_front zero g ps inside = sym (grouped_none g ps (λ q e. omega (arith, inside q e)))
@@ -66,7 +66,7 @@ module _ (covers : Capability → Proposal → Bool) (t : Standing) (n : ℕ) (p
       }
 
   -- what is found of the first n rows is found of all
-  pub found_front : ((d : Stands) → In d t.descriptors → length d.value < n) → (f : Found) → Outcome covers t (take n ps) f → Outcome covers t ps f
+  found_front : ((d : Stands) → In d t.descriptors → length d.value < n) → (f : Found) → Outcome covers t (take n ps) f → Outcome covers t ps f
   found_front narrow (Carried m) s =
       absurd (omega (arith, long, narrow s.descriptor s.stands, carries_few (usable covers t.entries) s.descriptor.value (take n ps) s.carries))
   found_front narrow (Blocked note) s = record { long = s.long; each = λ k d w a b. noted_front d w (s.each k d w a b) }
@@ -76,3 +76,12 @@ pub narrow : (t : Table) (d : Stands) → In d (standing t).descriptors → leng
 narrow t d a =
     let x = at_map descriptor_row (items t.descriptors) a.0 d a.1 in
     subst (λ (e : Stands). length e.value < 17) x.2 (omega (arith, length-map (items x.0.sets) members_of, items_most x.0.sets))
+
+-- what is found of the first 17 rows is found of all
+pub found_few : (covers : Capability → Proposal → Bool) (t : Table) (ps : List Proposal) (n : ℕ) (f : Found) → n ≡ min (length ps) 17 → Outcome covers (standing t) (take n ps) f → Outcome covers (standing t) ps f
+found_few covers t ps n f e o = elim (cases_lt 17 (length ps)) [
+  | inl many ↦
+      let all : n ≡ 17 = omega arith in
+      found_front covers (standing t) 17 ps many (narrow t) f (subst (λ k. Outcome covers (standing t) (take k ps) f) all o)
+  | inr few ↦ subst (λ (qs : List Proposal). Outcome covers (standing t) qs f) (take_all n ps (omega arith)) o
+]

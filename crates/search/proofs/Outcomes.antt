@@ -1,6 +1,6 @@
 -- What is found descriptor by descriptor, in the subject's words.
 use Rattle.std.proofs.Common.{◌≡◌, ℕ, zero, suc, ◌+◌, ◌<◌, ◌≤◌, Bool, true, leb, ◌⊎◌, List, [], ◌∷◌, length, get_or, None, sym, refl, ap, ◌∙◌, subst, inl, inr, arith}
-use Rattle.std.proofs.lemmas.Bool.{cases_eq, cases_lt, and_parts, leb-true}
+use Rattle.std.proofs.lemmas.Bool.{cases_eq, cases_lt, and_parts}
 use Rattle.bounded.specs.Bit.{bit}
 use Rattle.judges.specs.declared.words.Capability.{Capability}
 use Rattle.judges.specs.declared.words.Proposal.{Proposal}
@@ -15,7 +15,7 @@ use Rattle.search.specs.Lists.{At, In, passes_at}
 use Rattle.search.specs.Settling.{meets_at, BlockedBy}
 use Rattle.search.proofs.Bridge.{at_some, carries_is, carries_same, reach_many, blocks_is, blocks_same, blocks_refute, reach_same}
 use Rattle.search.proofs.Covers.{at_one}
-use Rattle.search.proofs.Meets.{meeting_usable}
+use Rattle.search.proofs.Meets.{below, meeting_usable}
 use Rattle.search.proofs.Pairs.{Paired}
 use Rattle.search.proofs.Places.{pass_at}
 
@@ -25,22 +25,12 @@ pass_ext P Q (x ∷ xs) zero h = h x
 pass_ext P Q (x ∷ xs) (suc k) h = pass_ext P Q xs k h
 
 -- by rising number, a later place has a greater number
-from_on : (from : ℕ) (ds : List Stands) → rising from (numbers ds) ≡ true → (i : ℕ) (d : Stands) → At d ds i → from ≤ d.number
-from_on from [] up i d a = absurd (omega (arith, a.0))
-from_on from (x ∷ xs) up zero d a =
-    let two = and_parts (leb from x.number) (rising (x.number + 1) (numbers xs)) up in
-    omega (arith, leb-true from x.number two.0, ap (λ (y : Stands). y.number) a.1)
-from_on from (x ∷ xs) up (suc i) d a =
-    let two = and_parts (leb from x.number) (rising (x.number + 1) (numbers xs)) up in
-    omega (arith, leb-true from x.number two.0, from_on (x.number + 1) xs two.1 i d (omega (arith, a.0), a.1))
-
 later : (from : ℕ) (ds : List Stands) → rising from (numbers ds) ≡ true → (i j : ℕ) (d e : Stands) → At d ds i → At e ds j → i < j → d.number < e.number
 later from [] up i j d e a b l = absurd (omega (arith, a.0))
 later from (x ∷ xs) up i zero d e a b l = absurd (omega arith)
 later from (x ∷ xs) up zero (suc j) d e a b l =
     let two = and_parts (leb from x.number) (rising (x.number + 1) (numbers xs)) up in
-    let q : x.number ≡ d.number = ap (λ (y : Stands). y.number) a.1 in
-    omega (arith, from_on (x.number + 1) xs two.1 j e (omega (arith, b.0), b.1))
+    omega (arith, ap (λ (y : Stands). y.number) a.1, below (x.number + 1) xs j e two.1 (omega (arith, b.0), b.1))
 later from (x ∷ xs) up (suc i) (suc j) d e a b l =
     let two = and_parts (leb from x.number) (rising (x.number + 1) (numbers xs)) up in
     later (x.number + 1) xs two.1 i j d e (omega (arith, a.0), a.1) (omega (arith, b.0), b.1) (omega arith)

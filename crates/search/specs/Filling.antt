@@ -1,10 +1,9 @@
 -- The cover board: what each row can use, as the board is to say it.
-use Rattle.std.specs.Prelude.{◌≡◌, ℕ, ◌<◌, Bool, ◌&&◌, List, length, slice_index}
+use Rattle.std.specs.Prelude.{◌≡◌, ℕ, Bool, ◌&&◌, List, length, slice_index}
 use Rattle.bounded.specs.Bit.{bit}
 use Rattle.judges.specs.declared.words.Capability.{Capability}
 use Rattle.judges.specs.declared.words.Proposal.{Proposal}
 use Rattle.matching.specs.Board.{any}
-use Rattle.matching.specs.Masks.{can}
 use Rattle.keyed.specs.Keyed.{Numbered, among}
 use Rattle.search.specs.Lists.{At, passes_at}
 
@@ -28,7 +27,3 @@ pub record Covered (covers : Capability → Proposal → Bool) (es : List (Numbe
 -- the row at place r can use the set at place s
 abbrev pub uses : (List ℕ → Proposal → Bool) → List (List ℕ) → List Proposal → ℕ → ℕ → Bool
 uses fit sets ps r s = passes_at (λ p. passes_at (λ S. fit S p) sets s) ps r
-
--- the board says of each row what sets it can use
-abbrev pub Filled : (List ℕ → Proposal → Bool) → List (List ℕ) → List Proposal → List ℕ → Type 0
-Filled fit sets ps board = (r s : ℕ) → r < length ps → can board r s ≡ uses fit sets ps r s

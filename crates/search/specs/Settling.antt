@@ -1,12 +1,13 @@
 -- What the seating answers of one descriptor.
-use Rattle.std.specs.Prelude.{◌≡◌, ℕ, ◌<◌, Bool, true, List, length, slice_index}
+use Rattle.std.specs.Prelude.{◌≡◌, ℕ, ◌<◌, Bool, true, List, length, Ok, Err, Result, slice_index}
+use Rattle.std.specs.Borrow.{Bor}
 use Rattle.bounded.specs.Bit.{bit}
 use Rattle.judges.specs.declared.words.Capability.{Capability}
 use Rattle.judges.specs.declared.words.Proposal.{Proposal}
 use Rattle.matching.specs.Board.{count, reach, Carries, Blocks}
+use Rattle.matching.specs.Calls.{at}
 use Rattle.matching.specs.Steps.{Placed}
-use Rattle.matching.specs.declared.verdict.Verdict.{Verdict}
-use Rattle.matching.specs.declared.verdict.Verdict.TheVariants.{Carried, Blocked}
+use Rattle.matching.specs.declared.block.Block.{Block}
 use Rattle.keyed.specs.Keyed.{Numbered}
 use Rattle.search.specs.Filling.{meeting}
 use Rattle.search.specs.Carrying.{usable}
@@ -22,15 +23,15 @@ pub record BlockedBy (can : ℕ → ℕ → Bool) (n m g k : ℕ) : Type 0 where
   pub inside : (q : ℕ) → bit g q ≡ true → q < n
   pub sets : k ≡ count (reach can n (bit g)) m
 
--- the holders seat the rows, or a group blocks
-abbrev pub Arranged : (ℕ → ℕ → Bool) → ℕ → ℕ → (ℕ → ℕ) → Verdict → Type 0
-Arranged can n m holders Carried = Placed can n m holders n
-Arranged can n m holders (Blocked g k) = BlockedBy can n m g k
+-- the holders, one for each set, seat the rows; or a group blocks
+abbrev pub Arranged : (ℕ → ℕ → Bool) → ℕ → ℕ → Result (Bor (List ℕ)) Block → Type 0
+Arranged can n m (Ok holders) = (length holders.now ≡ m) × Placed can n m (at holders.now) n
+Arranged can n m (Err b) = BlockedBy can n m b.group b.sets
 
 -- each row has a set of its own, or a group blocks
-abbrev pub Settled : (ℕ → ℕ → Bool) → ℕ → ℕ → Verdict → Type 0
-Settled can n m Carried = Carries can n m
-Settled can n m (Blocked g k) = BlockedBy can n m g k
+abbrev pub Settled : (ℕ → ℕ → Bool) → ℕ → ℕ → Result (Unit {0}) Block → Type 0
+Settled can n m (Ok _) = Carries can n m
+Settled can n m (Err b) = BlockedBy can n m b.group b.sets
 
 -- no set is held by the row at a place, or one that it cannot use
 abbrev pub Standless : (Capability → Proposal → Bool) → List (Numbered Capability) → List (List ℕ) → (ℕ → ℕ) → Proposal → ℕ → Type 0

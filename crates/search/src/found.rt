@@ -3,7 +3,7 @@
 use bounded::Bounded;
 
 /// Why a descriptor does not carry the rows: a group of them, a bit for each place, and how many of its sets some of the group can use.
-#[derive(Clone, Copy)]
+#[derive(Clone, Copy, Default)]
 pub struct NoteRow {
     pub descriptor: u8,
     pub group: u32,
@@ -11,6 +11,7 @@ pub struct NoteRow {
 }
 
 /// The smallest descriptor that carries the rows; or a row of a note for each standing descriptor, by rising number.
+// An enum of its own: it stands in a Result, and a Result in a Result reads worse.
 #[derive(Clone, Copy)]
 pub enum Found {
     Carried(u8),

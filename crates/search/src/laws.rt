@@ -3,8 +3,7 @@
 ghost use Rattle.search.specs.Carrying.{BlockRefutes};
 
 /// A blocking group and a seating exclude each other.
-pub fn block_refutes() -> u8
+#[tactic(auto, using(crate::proofs::Bridge::blocks_refute))]
+pub fn block_refutes()
     ensures { BlockRefutes }
-{
-    0
-}
+{}

@@ -16,7 +16,7 @@ mod settle;
 
 pub use call::{search, seating, smallest};
 pub use found::{Found, NoteRow};
-pub use guard::{Guard, ROOM};
+pub use guard::{Guard, ROOM, in_scratch};
 pub use laws::block_refutes;
-pub use row::{NumberedRow, Row};
+pub use row::Row;
 pub use seat::{Seat, Seating};

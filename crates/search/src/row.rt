@@ -1,6 +1,6 @@
 //! What asks to be carried.
 
-ghost use Rattle.std.specs.Prelude.{◌≡◌, ℕ};
+ghost use Rattle.std.specs.Prelude.{◌≡◌};
 ghost use Rattle.judges.specs.declared.words.Proposal.{Proposal};
 
 use judges::Proposal;
@@ -13,10 +13,11 @@ pub trait Row {
         ensures { result ≡ asks self.now };
 }
 
-/// A row that is named by a number, in a seat list.
-pub trait NumberedRow: Row {
-    ghost named: { Self → ℕ };
+/// A proposal asks for itself.
+impl Row for Proposal {
+    ghost asks = { λ p. p };
 
-    fn number(&self) -> u16
-        ensures { result ≡ named self.now };
+    fn proposal(&self) -> Proposal {
+        *self
+    }
 }

@@ -3,7 +3,7 @@
 use bounded::Bounded;
 
 /// The seat of a row: its number, the place of its set in the descriptor, and the entry that it uses there.
-#[derive(Clone, Copy)]
+#[derive(Clone, Copy, Default)]
 pub struct Seat {
     pub number: u16,
     pub set: u8,

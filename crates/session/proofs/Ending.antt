@@ -1,7 +1,9 @@
 -- How calls end: refused, or done.
-use Rattle.std.proofs.Common.{◌≡◌, ℕ, ◌<◌, ◌≤◌, Bool, true, false, eqb, List, [], ◌∷◌, ◌++◌, length, drop, Some, sym, refl, ap, ◌∙◌, subst, inl, inr, arith}
+use Rattle.std.proofs.Common.{◌≡◌, ℕ, ◌<◌, ◌≤◌, Bool, true, false, eqb, List, [], ◌∷◌, ◌++◌, length, drop, Some, Ok, Err, Result, sym, refl, ap, ◌∙◌, subst, inl, inr, arith}
+use Rattle.std.specs.Result.{IsOk, OnErr}
 use Rattle.std.proofs.lemmas.List.{length-map}
 use Rattle.std.proofs.lemmas.Bool.{both_ways, cond-true, eq-eqb}
+use Rattle.bounded.specs.declared.held.NoRoom.{NoRoom}
 use Rattle.channels.specs.declared.words.State.TheVariants.{Pending}
 use Rattle.channels.specs.Held.{asked, holding}
 use Rattle.channels.specs.Holdings.{Holding, proposals}
@@ -10,8 +12,8 @@ use Rattle.judges.specs.declared.words.Proposal.{Proposal}
 use Rattle.keyed.specs.Keyed.{Numbered, After, Word, silent, said, afterwards, at}
 use Rattle.keyed.proofs.Merged.{after_one}
 use Rattle.refusals.specs.declared.refusal.Refusal.{Refusal}
-use Rattle.refusals.specs.declared.refusal.Refusal.TheVariants.{Scratch, List as ShortList, TooNarrow, NotAvailable}
-use Rattle.refusals.specs.Checks.{Check, First, Passed}
+use Rattle.refusals.specs.declared.refusal.Refusal.TheVariants.{NotAvailable}
+use Rattle.refusals.specs.Checks.{First, Passed}
 use Rattle.refusals.proofs.Firsts.{first_early, first_later, passed_both}
 use Rattle.search.specs.declared.found.NoteRow.{NoteRow}
 use Rattle.search.specs.Answers.{Smallest, Notes}
@@ -23,7 +25,7 @@ use Rattle.table.specs.Sets.{Standing, Done, message, set_checks, standing, entr
 use Rattle.table.proofs.Judged.{one_after}
 use Rattle.session.specs.declared.state.Session.{Session}
 use Rattle.session.specs.Calls.{Call, set, ask, Answer, refused, unavailable}
-use Rattle.session.specs.Rules.{Situation, Carried, ask_checks, room_checks, narrow_checks, checks, refusal, NotesLeft, Wrote}
+use Rattle.session.specs.Rules.{Situation, Carried, list_checks, ask_checks, room_checks, narrow_checks, checks, refusal, NotesLeft, Wrote}
 use Rattle.session.specs.Steps.{situation, Did}
 
 pub never : false ≡ true → ⊥
@@ -52,20 +54,20 @@ note_written covers s n p note rows left k ys after h is =
       kept = λ e. absurd (never (sym e));
     }
 
--- a call that is lent too little scratch
-pub short : (w : List ℕ) (rest : List Check) → length w < 512 → First (scratch_checks w ++ rest) Scratch
-short w rest l = inl (refl, λ h. omega arith)
+-- scratch of 512 octets is not refused
+pub not_short : (w : List ℕ) (k : Refusal) → 512 ≤ length w → First (scratch_checks w) k → ⊥
+not_short w k h (inl (_, l)) = l h
+not_short w k h (inr (_, f)) = f
+
+-- too little scratch is not refused with 15
+pub scratch_before_15 : (w : List ℕ) (k : Refusal) → First (scratch_checks w) k → unavailable (refused k) ≡ false
+scratch_before_15 w k (inl (e, _)) = ap (λ (j : Refusal). unavailable (refused j)) e
+scratch_before_15 w k (inr (_, f)) = absurd f
 
 module _ (lawful : Capability → Bool) (covers : Capability → Proposal → Bool) (own : ℕ) (s : Situation) where
-  -- a set message: refused by the table, too narrow, or done
+  -- a set message that is done
   module _ (m w : List ℕ) (room : 512 ≤ length w) where
-    pub set_early : (k : Refusal) → First (set_checks lawful m s.table) k → First (checks lawful covers own s (set m w)) k
-    set_early k f = inr (room, first_early (narrow_checks lawful covers own s m) (set_checks lawful m s.table) k f)
-
     module _ (t : Standing) (d : Done lawful m s.table t) where
-      pub set_narrow : (Carried covers t (proposals s.channels) → ⊥) → First (checks lawful covers own s (set m w)) TooNarrow
-      set_narrow not = inr (room, first_later (narrow_checks lawful covers own s m) (set_checks lawful m s.table) TooNarrow d.passed (inl (refl, λ l. not (l t d.merged))))
-
       pub set_passed : Carried covers t (proposals s.channels) → Passed (checks lawful covers own s (set m w))
       set_passed c = (
         room,
@@ -82,13 +84,11 @@ module _ (lawful : Capability → Bool) (covers : Capability → Proposal → Bo
 
   -- an ask: refused before its last check, not available, or done
   module _ (n : ℕ) (p : Proposal) (note : List NoteRow) (w : List ℕ) (room : 512 ≤ length w) where
-    pub ask_list : length note < 16 → First (checks lawful covers own s (ask n p note w)) ShortList
-    ask_list l = inr (room, inl (refl, λ h. omega arith))
+    pub ask_early : (k : Refusal) → First (list_checks note ++ ask_checks lawful covers own s n p) k → First (checks lawful covers own s (ask n p note w)) k × (unavailable (refused k) ≡ false)
+    ask_early k (inl (e, f)) = (inr (room, inl (e, f)), ap (λ (j : Refusal). unavailable (refused j)) e)
+    ask_early k (inr (rows, f)) = (inr (room, inr (rows, first_early (room_checks lawful covers own s n p) (ask_checks lawful covers own s n p) k f)), other_than_15 n p k f)
 
     module _ (rows : 16 ≤ length note) where
-      pub ask_early : (k : Refusal) → First (ask_checks lawful covers own s n p) k → First (checks lawful covers own s (ask n p note w)) k
-      ask_early k f = inr (room, inr (rows, first_early (room_checks lawful covers own s n p) (ask_checks lawful covers own s n p) k f))
-
       module _ (passed : Passed (ask_checks lawful covers own s n p)) (ys : List (Numbered Holding)) (after : After s.channels (asked n p) ys) where
         pub ask_blocked : (k : ℕ) → k ≡ length s.table.descriptors → (Carried covers s.table (proposals ys) → ⊥) → First (checks lawful covers own s (ask n p note w)) (NotAvailable k)
         ask_blocked k e not =
@@ -117,3 +117,8 @@ asked_some xs (y ∷ ys) n p after e = absurd (omega (arith, ap length e))
 pub carried_few : (covers : Capability → Proposal → Bool) (t : Table) (xs : List (Numbered Holding)) (d : ℕ) → Smallest covers (standing t) (proposals xs) d → length xs ≤ 16
 carried_few covers t xs d s =
     omega (arith, narrow t s.descriptor s.stands, carries_few (usable covers (entries_of t)) s.descriptor.value (proposals xs) s.carries, length-map xs (λ x. x.value.proposal))
+
+-- at most 16 channels are held
+pub few_held : (r : Result (Unit {0}) NoRoom) (same : Type 0) (xs ys : List (Numbered Holding)) (n : ℕ) (p : Proposal) → OnErr r (same × ((zs : List (Numbered Holding)) → After xs (asked n p) zs → 16 < length zs)) → After xs (asked n p) ys → length ys ≤ 16 → IsOk r
+few_held (Ok _) same xs ys n p full after few = refl
+few_held (Err k) same xs ys n p full after few = absurd (let many = full.1 ys after in omega arith)

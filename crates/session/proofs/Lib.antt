@@ -3,3 +3,4 @@ pub mod Carries
 pub mod Ending
 pub mod Settles
 pub mod Seats
+pub mod Asks

@@ -15,9 +15,10 @@ use Rattle.refusals.specs.Checks.{First, Passed}
 use Rattle.refusals.proofs.Firsts.{first_fails}
 use Rattle.search.specs.declared.found.NoteRow.{NoteRow}
 use Rattle.session.specs.declared.state.Session.{Session}
+use Rattle.session.specs.declared.words.HandedBack.{HandedBack}
 use Rattle.session.specs.Calls.{Call, ask, accept, decline, close, refused, done, opened, went}
 use Rattle.session.specs.Rules.{pending_checks, checks, Ends, refusal, result, Wrote}
-use Rattle.session.specs.Steps.{held, situation, of_close, Settled, Did}
+use Rattle.session.specs.Steps.{held, situation, of_settling, settling_of, of_close, Settled, Did}
 use Rattle.session.proofs.Ending.{never, refuses, asked_at}
 
 -- a pending open is refused as unknown, or as its channel is
@@ -37,14 +38,8 @@ module _ {J : Type 0} (lawful : J → Capability → Bool) (covers : J → Capab
   refuses_at s t c k left e f w = subst (Did lawful covers s c (refused k) left) (sym e) (refuses lawful covers s c k left f w)
 
   module _ (s t : Session J) (session n : ℕ) where
-    pub accept_refused : (k : Refusal) → Settled s Accept session n (Err k) t → Did lawful covers s (accept session n) (refused k) [] t
-    accept_refused k h = refuses_at s t (accept session n) k [] h.answer.0 (pending_refused s.number (held s) Accept session n refl k h.answer.1) refl
-
-    pub decline_refused : (k : Refusal) → Settled s Decline session n (Err k) t → Did lawful covers s (decline session n) (refused k) [] t
-    decline_refused k h = refuses_at s t (decline session n) k [] h.answer.0 (pending_refused s.number (held s) Decline session n refl k h.answer.1) refl
-
-    pub accept_done : Settled s Accept session n (Ok tt) t → Did lawful covers s (accept session n) done [] t
-    accept_done h =
+    pub accepted : (r : Result (Unit {0}) HandedBack) → Settled s Accept session n (settling_of r) t → Did lawful covers s (accept session n) (of_settling r) [] t
+    accepted (Ok _) h =
         record {
           ends = result (pending_passed s.number (held s) Accept session n refl h.answer.0 h.answer.1) refl;
           wrote = refl;
@@ -53,9 +48,10 @@ module _ {J : Type 0} (lawful : J → Capability → Bool) (covers : J → Capab
           judge = h.judge;
           number = h.number;
         }
+    accepted (Err b) h = refuses_at s t (accept session n) b.refusal [] h.answer.0 (pending_refused s.number (held s) Accept session n refl b.refusal h.answer.1) refl
 
-    pub decline_done : Settled s Decline session n (Ok tt) t → Did lawful covers s (decline session n) done [] t
-    decline_done h =
+    pub declined : (r : Result (Unit {0}) HandedBack) → Settled s Decline session n (settling_of r) t → Did lawful covers s (decline session n) (of_settling r) [] t
+    declined (Ok _) h =
         record {
           ends = result (pending_passed s.number (held s) Decline session n refl h.answer.0 h.answer.1) refl;
           wrote = refl;
@@ -64,6 +60,7 @@ module _ {J : Type 0} (lawful : J → Capability → Bool) (covers : J → Capab
           judge = h.judge;
           number = h.number;
         }
+    declined (Err b) h = refuses_at s t (decline session n) b.refusal [] h.answer.0 (pending_refused s.number (held s) Decline session n refl b.refusal h.answer.1) refl
 
   -- the session with other channels
   abbrev with : Session J → Channels → Session J
@@ -98,3 +95,7 @@ module _ {J : Type 0} (lawful : J → Capability → Bool) (covers : J → Capab
       fails : Ends (lawful m.judge) (covers m.judge) m.number (situation m) (accept session n) (refused k) → ⊥
       fails (refusal f) = first_fails (pending_checks m.number (held m) session n) k f p
       fails (result q r) = gone r
+
+  pub accept_goes : (m t : Session J) (session n : ℕ) (r : Result (Unit {0}) HandedBack) → Did lawful covers m (accept session n) (of_settling r) [] t → Passed (pending_checks m.number (held m) session n) → r ≡ Ok tt
+  accept_goes m t session n (Ok _) h p = refl
+  accept_goes m t session n (Err b) h p = absurd (accept_fails m t session n b.refusal [] h p)

@@ -43,9 +43,13 @@ module _ (covers : Capability → Proposal → Bool) where
   abbrev pub Supported : Standing → Proposal → Type 0
   Supported t p = (e : Numbered Capability) × In e t.entries × (covers e.value p ≡ true)
 
+-- a list has so many rows: 16 or more
+abbrev pub row_checks : ℕ → List Check
+row_checks rows = check ShortList (16 ≤ rows) ∷ []
+
 -- the note of an ask, and the list of a seating, has 16 rows or more
 abbrev pub list_checks : {X : Type 0} → List X → List Check
-list_checks rows = check ShortList (16 ≤ length rows) ∷ []
+list_checks rows = row_checks (length rows)
 
 -- a pending open is of this session, and its channel is held; the channel is pending
 abbrev pub pending_checks : ℕ → List (Numbered Holding) → ℕ → ℕ → List Check

@@ -3,8 +3,8 @@ use Rattle.std.specs.Prelude.{◌≡◌, ℕ, Bool, true, false, ◌⊎◌, List
 use Rattle.bounded.specs.Items.{items}
 use Rattle.channels.specs.declared.words.Channel.{Channel}
 use Rattle.channels.specs.declared.words.Event.{Event}
-use Rattle.channels.specs.Held.{channels_of, shall, becomes, event_checks, Ranked}
-use Rattle.channels.specs.Holdings.{Holding}
+use Rattle.channels.specs.Held.{channels_of, asked, shall, becomes, event_checks, Ranked}
+use Rattle.channels.specs.Holdings.{Holding, proposals}
 use Rattle.judges.specs.declared.words.Capability.{Capability}
 use Rattle.judges.specs.declared.words.Proposal.{Proposal}
 use Rattle.keyed.specs.Keyed.{Numbered, After, at}
@@ -12,18 +12,21 @@ use Rattle.modes.specs.declared.available.Available.{Available}
 use Rattle.refusals.specs.declared.refusal.Refusal.{Refusal}
 use Rattle.refusals.specs.declared.refusal.Refusal.TheVariants.{Unknown}
 use Rattle.refusals.specs.Checks.{Check, First, Passed}
+use Rattle.search.specs.declared.found.Found.{Found}
 use Rattle.search.specs.declared.found.NoteRow.{NoteRow}
 use Rattle.search.specs.declared.seat.Seat.{Seat}
 use Rattle.search.specs.declared.seat.Seating.{Seating}
+use Rattle.search.specs.Answers.{Outcome}
 use Rattle.search.specs.Scratch.{scratch_checks}
 use Rattle.search.specs.Seats.{SeatingOf}
-use Rattle.table.specs.Sets.{standing, entries_of, descriptors_of}
+use Rattle.table.specs.declared.standing.Table.{Table}
+use Rattle.table.specs.Sets.{Done, set_checks, standing, entries_of, descriptors_of}
 use Rattle.session.specs.declared.state.Session.{Session}
 use Rattle.session.specs.declared.words.HandedBack.{HandedBack}
 use Rattle.session.specs.declared.words.Opened.{Opened}
 use Rattle.session.specs.declared.words.PendingOpen.{PendingOpen}
 use Rattle.session.specs.Calls.{Call, ask, accept, Answer, refused, done, numbered, opened, available, went}
-use Rattle.session.specs.Rules.{Situation, list_checks, Ends, LeavesThen, Wrote}
+use Rattle.session.specs.Rules.{Situation, Carried, ask_checks, row_checks, list_checks, narrow_checks, Ends, LeavesThen, Wrote}
 
 -- The answer that each call's result stands for.
 abbrev pub of_set : Result ℕ Refusal → Answer
@@ -38,6 +41,11 @@ of_ask (Err k) = refused k
 abbrev pub of_settling : Result (Unit {0}) HandedBack → Answer
 of_settling (Ok _) = done
 of_settling (Err b) = refused b.refusal
+
+-- what their answer says without the pending open
+abbrev pub settling_of : Result (Unit {0}) HandedBack → Result (Unit {0}) Refusal
+settling_of (Ok u) = Ok u
+settling_of (Err b) = Err b.refusal
 
 abbrev pub of_close : Result (Unit {0}) Refusal → Answer
 of_close (Ok _) = done
@@ -124,3 +132,21 @@ module _ {J : Type 0} (covers : J → Capability → Proposal → Bool) where
       Passed (seating_checks list scratch)
       × ((q : Seating) × SeatingHeld s (Some q) × (d ≡ q.descriptor) × (left ≡ items q.seats ++ drop (length (items q.seats)) list))
   SeatedAs s list scratch (Err k) left = First (seating_checks list scratch) k × (left ≡ list)
+
+module _ {J : Type 0} (lawful : J → Capability → Bool) (covers : J → Capability → Proposal → Bool) where
+  -- The checks that a set message is put to, in their order, once there is memory to work in.
+  abbrev pub message_checks : Session J → List ℕ → List Check
+  message_checks s m = set_checks (lawful s.judge) m (standing s.table) ++ narrow_checks (lawful s.judge) (covers s.judge) s.number (situation s) m
+
+  -- A table that a set message makes of the session's, and that carries the channels held.
+  abbrev pub Becomes : Session J → List ℕ → Table → Type 0
+  Becomes s m t = Done (lawful s.judge) m (standing s.table) (standing t) × Carried (covers s.judge) (standing t) (proposals (held s))
+
+  -- The checks that an ask is put to before its last, with a note of so many rows.
+  abbrev pub asking_checks : Session J → ℕ → Proposal → ℕ → List Check
+  asking_checks s n p rows = row_checks rows ++ ask_checks (lawful s.judge) (covers s.judge) s.number (situation s) n p
+
+module _ {J : Type 0} (covers : J → Capability → Proposal → Bool) where
+  -- What is found of the channels that an ask concerns.
+  abbrev pub FoundFor : Session J → ℕ → Proposal → Found → Type 0
+  FoundFor s n p f = (ys : List (Numbered Holding)) × After (held s) (asked n p) ys × Outcome (covers s.judge) (standing s.table) (proposals ys) f

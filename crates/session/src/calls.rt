@@ -1,18 +1,20 @@
 //! Making, set, mode request, seating and the read-outs.
 
-ghost use Rattle.std.specs.Prelude.{◌≡◌, ℕ, ◌≤◌, List, [], length};
+ghost use Rattle.std.specs.Prelude.{◌≡◌, [], MatchResult};
+ghost use Rattle.refusals.specs.Checks.{First, Passed};
 ghost use Rattle.search.specs.Scratch.{left_over};
 ghost use Rattle.session.specs.Calls.{request as requesting};
-ghost use Rattle.session.specs.Steps.{Made, Counts, Ranks, Reads, of_request, Did, Opens, SeatedAs};
+ghost use Rattle.session.specs.Rules.{row_checks};
+ghost use Rattle.session.specs.Steps.{Made, Counts, Ranks, Reads, of_request, Did, Opens, SeatedAs, SeatingHeld};
 
 use crate::asking::ROWS;
 use crate::state::Session;
-use crate::words::{HandedBack, Opened, PendingOpen};
+use crate::words::Opened;
 use channels::{Channel, Channels};
 use judges::{Capability, Judge, Proposal};
 use modes::{Available, request_mode};
 use refusals::Refusal;
-use search::{Guard, NoteRow, ROOM, Seat, seating};
+use search::{NoteRow, ROOM, Seat, Seating, in_scratch, seating};
 use table::Table;
 
 impl<J: Judge> Session<J> {
@@ -60,25 +62,13 @@ impl<J: Judge> Session<J> {
         ensures opens { Opens J.Judge.lawful J.Judge.covers self.old number proposal note.old scratch.old result note.new self.new }
         ensures scratch { scratch.new ≡ left_over scratch.old }
     {
-        match self.ask(number, proposal, note, scratch) {
-            Ok(
-                Opened {
-                    pending,
-                    descriptor,
-                },
-            ) => match self.accept(pending) {
-                Ok(()) => Ok(descriptor),
-                // The pending open of the ask just done is not refused.
-                Err(HandedBack { refusal, pending }) => {
-                    let PendingOpen {
-                        session: _,
-                        channel: _,
-                    } = pending;
-                    Err(refusal)
-                }
-            },
-            Err(refusal) => Err(refusal),
-        }
+        let Opened {
+            pending,
+            descriptor,
+        } = self.ask(number, proposal, note, scratch)?;
+        // The pending open of the ask just done is not refused.
+        self.accept(pending).unwrap();
+        Ok(descriptor)
     }
 
     /// The first mode of a message that a standing descriptor carries, and the smallest such descriptor. The channels held play no part.
@@ -89,26 +79,14 @@ impl<J: Judge> Session<J> {
         request_mode(&self.judge, &self.table, message, scratch)
     }
 
-    // Seats the channels held, with octets to work in.
-    fn seating_in(&self, list: &mut [Seat], work: &mut [u8]) -> Result<Option<u8>, Refusal>
-        requires { 512 ≤ length work.old }
-        ensures { (w : List ℕ) → 512 ≤ length w → SeatedAs J.Judge.covers self.now list.old w result list.new }
+    // The seats of the channels held, for a list of so many rows, with octets to work in.
+    fn seats_held(&self, rows: usize, work: &mut [u8; ROOM]) -> Result<Option<Seating>, Refusal>
+        ensures { MatchResult result (λ o. Passed (row_checks rows) × SeatingHeld J.Judge.covers self.now o) (λ k. First (row_checks rows) k) }
     {
-        if list.len() < ROWS {
+        if rows < ROWS {
             return Err(Refusal::List);
         }
-        match seating(&self.judge, &self.table, self.channels.as_slice(), work) {
-            Ok(found) => match found {
-                Some(seated) => {
-                    let rows = seated.seats;
-                    let part = &mut list[0..rows.len()];
-                    part.copy_from_slice(rows.as_slice());
-                    Ok(Some(seated.descriptor))
-                }
-                None => Ok(None),
-            },
-            Err(refusal) => Err(refusal),
-        }
+        seating(&self.judge, &self.table, self.channels.as_slice(), work)
     }
 
     /// Seats the channels held: answers the smallest descriptor that carries them, and writes a row for each channel, by rising number; none where no channel is held. The list has at least 16 rows, the scratch at least 512 octets.
@@ -116,10 +94,12 @@ impl<J: Judge> Session<J> {
         ensures seated { SeatedAs J.Judge.covers self.now list.old scratch.old result list.new }
         ensures scratch { scratch.new ≡ left_over scratch.old }
     {
-        if scratch.len() < ROOM {
-            return Err(Refusal::Scratch);
-        }
-        let guard = Guard { bytes: scratch };
-        self.seating_in(list, &mut guard.bytes[0..ROOM])
+        let rows = list.len();
+        let Some(seated) = in_scratch(scratch, |work| self.seats_held(rows, work))?? else {
+            return Ok(None);
+        };
+        let seats = seated.seats;
+        list[..seats.len()].copy_from_slice(seats.as_slice());
+        Ok(Some(seated.descriptor))
     }
 }

@@ -1,29 +1,25 @@
 //! What a table can carry, in lent memory that is long enough.
 
-ghost use Rattle.std.specs.Prelude.{◌≤◌, length};
 ghost use Rattle.channels.specs.Holdings.{channel_rows, proposals};
 ghost use Rattle.channels.specs.Held.{channels_of};
 ghost use Rattle.search.specs.Answers.{Outcome};
 ghost use Rattle.table.specs.Sets.{standing};
 ghost use Rattle.session.specs.Rules.{Whether, Carried, Supported};
 
-use bounded::Bounded;
 use channels::{Channel, Channels};
 use judges::{Judge, Proposal};
-use search::{Found, NoteRow, search};
+use search::{Found, ROOM, search};
 use table::Table;
 
 /// Whether an entry covers the proposal.
+// The judge and the table stay two parameters, as in the search's own calls.
 pub(crate) fn is_supported<J: Judge>(judge: &J, table: &Table, proposal: &Proposal) -> bool
     ensures { Whether result (Supported (J.Judge.covers judge.now) (standing table.now) proposal.now) }
 {
-    let entries = table.entries();
-    for k in 0..entries.len() {
-        if judge.does_cover(&entries[k].capability, proposal) {
-            return true;
-        }
-    }
-    false
+    table
+        .entries()
+        .iter()
+        .any(|entry| judge.does_cover(&entry.capability, proposal))
 }
 
 /// The smallest descriptor that carries the channels, or a row of a note for each.
@@ -31,20 +27,12 @@ pub(crate) fn find<J: Judge>(
     judge: &J,
     table: &Table,
     channels: &[Channel],
-    work: &mut [u8],
+    work: &mut [u8; ROOM],
 ) -> Found
-    requires { 512 ≤ length work.old }
     ensures { Outcome (J.Judge.covers judge.now) (standing table.now) (proposals (channel_rows channels.now)) result }
 {
-    match search(judge, table, channels, work) {
-        Ok(found) => found,
-        // A scratch of 512 octets is not refused.
-        Err(_) => Found::Blocked(Bounded::new(NoteRow {
-            descriptor: 0,
-            group: 0,
-            sets: 0,
-        })),
-    }
+    // A scratch of 512 octets is not refused.
+    search(judge, table, channels, work).unwrap()
 }
 
 /// Whether the channels are carried: no channels always are.
@@ -52,16 +40,15 @@ pub(crate) fn are_carried<J: Judge>(
     judge: &J,
     table: &Table,
     channels: &Channels,
-    work: &mut [u8],
+    work: &mut [u8; ROOM],
 ) -> bool
-    requires { 512 ≤ length work.old }
     ensures { Whether result (Carried (J.Judge.covers judge.now) (standing table.now) (proposals (channels_of channels.now))) }
 {
     if channels.count() == 0 {
         return true;
     }
-    match find(judge, table, channels.as_slice(), work) {
-        Found::Carried(_) => true,
-        Found::Blocked(_) => false,
-    }
+    matches!(
+        find(judge, table, channels.as_slice(), work),
+        Found::Carried(_)
+    )
 }

@@ -2,7 +2,7 @@
 
 ghost use Rattle.std.specs.Prelude.{◌≡◌, []};
 ghost use Rattle.session.specs.Calls.{accept as accepting, decline as declining, close as closing};
-ghost use Rattle.session.specs.Steps.{of_settling, of_close, HandsBack, Settled, Did};
+ghost use Rattle.session.specs.Steps.{of_settling, settling_of, of_close, HandsBack, Settled, Did};
 
 use crate::state::Session;
 use crate::words::{HandedBack, PendingOpen};
@@ -37,12 +37,12 @@ impl<J: Judge> Session<J> {
         self.channels.meet(event, channel)
     }
 
-    /// Accepts a pending open: its channel is established.
-    pub fn accept(&mut self, pending: PendingOpen) -> Result<(), HandedBack>
-        ensures did { Did J.Judge.lawful J.Judge.covers self.old (accepting pending.session pending.channel) (of_settling result) [] self.new }
+    // Spends a pending open on an event, or hands it back.
+    fn spend(&mut self, event: Event, pending: PendingOpen) -> Result<(), HandedBack>
+        ensures settled { Settled self.old event pending.session pending.channel (settling_of result) self.new }
         ensures back { HandsBack pending result }
     {
-        match self.settle(Event::Accept, pending.session, pending.channel) {
+        match self.settle(event, pending.session, pending.channel) {
             Ok(()) => {
                 let PendingOpen {
                     session: _,
@@ -54,21 +54,20 @@ impl<J: Judge> Session<J> {
         }
     }
 
+    /// Accepts a pending open: its channel is established.
+    pub fn accept(&mut self, pending: PendingOpen) -> Result<(), HandedBack>
+        ensures did { Did J.Judge.lawful J.Judge.covers self.old (accepting pending.session pending.channel) (of_settling result) [] self.new }
+        ensures back { HandsBack pending result }
+    {
+        self.spend(Event::Accept, pending)
+    }
+
     /// Declines a pending open: its channel is not held any more.
     pub fn decline(&mut self, pending: PendingOpen) -> Result<(), HandedBack>
         ensures did { Did J.Judge.lawful J.Judge.covers self.old (declining pending.session pending.channel) (of_settling result) [] self.new }
         ensures back { HandsBack pending result }
     {
-        match self.settle(Event::Decline, pending.session, pending.channel) {
-            Ok(()) => {
-                let PendingOpen {
-                    session: _,
-                    channel: _,
-                } = pending;
-                Ok(())
-            }
-            Err(refusal) => Err(HandedBack { refusal, pending }),
-        }
+        self.spend(Event::Decline, pending)
     }
 
     /// Closes an established channel: it is not held any more.

@@ -1,25 +1,35 @@
 -- The first check of a table that is not met, and what stands where all are.
-use Rattle.std.proofs.Common.{◌≡◌, ℕ, ◌<◌, ◌≤◌, Bool, true, false, List, length, refl, ap, ◌∙◌, subst, inl, inr, arith}
+use Rattle.std.proofs.Common.{◌≡◌, ℕ, ◌<◌, ◌≤◌, Bool, true, false, List, map, length, Ok, Err, Result, sym, refl, ap, ◌∙◌, subst, inl, inr, arith}
 use Rattle.std.specs.List.{list_all}
+use Rattle.std.specs.Result.{MatchResult, IsErrAnd}
+use Rattle.std.proofs.lemmas.List.{length-map}
 use Rattle.std.proofs.lemmas.Bool.{both_ways}
+use Rattle.bounded.specs.declared.held.Bounded.{Bounded}
+use Rattle.bounded.specs.Items.{items}
+use Rattle.bounded.proofs.Most.{items_most}
 use Rattle.judges.specs.declared.words.Capability.{Capability}
 use Rattle.refusals.specs.declared.refusal.Refusal.{Refusal}
-use Rattle.refusals.specs.declared.refusal.Refusal.TheVariants.{Unlawful, Twice, Entries, Descriptors, Undefined}
-use Rattle.refusals.specs.Checks.{First, Passed}
+use Rattle.refusals.specs.declared.refusal.Refusal.TheVariants.{Entries, Descriptors, Undefined}
+use Rattle.refusals.specs.Checks.{Check, First, Passed}
 use Rattle.refusals.proofs.Firsts.{first_later, passed_both}
+use Rattle.records.specs.declared.held.Cursor.{Cursor}
 use Rattle.records.specs.declared.held.Form.TheVariants.{Set}
 use Rattle.records.specs.Layout.{Rec, all_in_range}
 use Rattle.records.specs.Messages.{message_checks}
 use Rattle.records.specs.Order.{set_order}
-use Rattle.records.specs.Reads.{rows_of, says_of, tags}
+use Rattle.records.specs.Reads.{rows, rows_of, says, says_of, tags}
 use Rattle.records.proofs.Known.{sound, tags_said, all_sound}
 use Rattle.records.proofs.Orders.{set_from}
-use Rattle.keyed.specs.Keyed.{Numbered, rising, numbers}
-use Rattle.table.specs.Message.{entries_in, descriptors_in, all_lawful, narrow}
+use Rattle.keyed.specs.Keyed.{Numbered, mentioned, repeats}
 use Rattle.keyed.specs.Merge.{merging}
-use Rattle.table.specs.Sets.{Standing, Merged, Once, Leaves, Done, message, table_checks, set_checks}
-use Rattle.table.specs.Shape.{is_named, is_shaped, defined}
 use Rattle.keyed.proofs.Merged.{merging_after, after_one}
+use Rattle.table.specs.declared.held.Descriptor.{Descriptor}
+use Rattle.table.specs.declared.held.Entry.{Entry}
+use Rattle.table.specs.declared.standing.Table.{Table}
+use Rattle.table.specs.Message.{entries_in, descriptors_in, all_lawful, narrow}
+use Rattle.table.specs.Rows.{entry_row, entry_rows, descriptor_row, descriptor_rows}
+use Rattle.table.specs.Sets.{Standing, Merged, Once, Leaves, Done, Keeps, entries_of, descriptors_of, standing, message, table_checks, set_checks}
+use Rattle.table.specs.Shape.{is_named, is_shaped, defined}
 use Rattle.table.proofs.Shapes.{merging_all, named_in, shaped_in, order_narrow}
 
 abbrev mk : List (Numbered Capability) → List (Numbered (List (List ℕ))) → Standing
@@ -35,67 +45,93 @@ same_standing t u p q =
 pub one_after : (before : Standing) (m : List Rec) (t u : Standing) → Merged before m t → Merged before m u → t ≡ u
 one_after before m t u p q = same_standing t u (after_one _ _ _ _ p.entries q.entries) (after_one _ _ _ _ p.descriptors q.descriptors)
 
-module _ (lawful : Capability → Bool) (m : List Rec) (before : Standing) where
-  pub refused_unlawful : all_lawful lawful (entries_in m) ≡ false → First (table_checks lawful m before) Unlawful
-  refused_unlawful e = inl (refl, both_ways _ e)
+-- a list with a view is so long
+pub fits : {X : Type 0} {V : Type 0} {N : ℕ} (view : X → Numbered V) (b : Bounded X N) (all : List (Numbered V)) → map view (items b) ≡ all → length all ≤ N
+fits view b all e = omega (arith, items_most b, length-map (items b) view, ap length e)
 
-  module _ (lawfully : all_lawful lawful (entries_in m) ≡ true) where
-    pub refused_twice : (Once m → ⊥) → First (table_checks lawful m before) Twice
-    refused_twice e = inr (lawfully, inl (refl, e))
+-- a refusal that is handed on
+pub handed : {T : Type 0} (P : T → Type 0) (Q : Refusal → Type 0) (r : Result T Refusal) {j k : Refusal} → IsErrAnd r (λ e. e ≡ j) → j ≡ k → Q k → MatchResult r P Q
+handed P Q (Ok u) is e q = absurd is
+handed P Q (Err i) is e q = subst Q (sym (is ∙ e)) q
 
-    module _ (once : Once m) (rise : rising 0 (numbers before.entries) ≡ true) (rise' : rising 0 (numbers before.descriptors) ≡ true) where
-      -- what the code makes of the table
-      abbrev pub after : Standing
-      after = mk (merging (entries_in m) before.entries) (merging (descriptors_in m) before.descriptors)
+-- A message whose first checks are met, its records, and the checks of a table on them.
+module _ (lawful : Capability → Bool) (octets : List ℕ) (t : Table) (records : Cursor) (read : Passed (message_checks Set octets) × (rows records ≡ rows_of octets)) where
+  abbrev rs : List Rec
+  rs = says records
 
-      pub merged : Merged before m after
-      merged = record { entries = merging_after (entries_in m) before.entries once.entries rise; descriptors = merging_after (descriptors_in m) before.descriptors once.descriptors rise' }
+  abbrev checks : List Rec → List Check
+  checks m = table_checks lawful m (standing t)
 
-      -- what holds of it holds of the table after the message
-      leaves : (P : Standing → Type 0) → P after → Leaves before m P
-      leaves P p t q = subst P (one_after before m after t merged q) p
+  said : rs ≡ message octets
+  said = ap says_of read.1
 
-      pub refused_entries : 64 < length after.entries → First (table_checks lawful m before) Entries
-      refused_entries h = inr (lawfully, inr (once, inl (refl, λ f. let l = f after merged in omega arith)))
+  refused : (k : Refusal) → First (checks rs) k → First (set_checks lawful octets (standing t)) k
+  refused k f = first_later (checks (message octets)) (message_checks Set octets) k read.0 (subst (λ (m : List Rec). First (checks m) k) said f)
 
-      module _ (f8 : length after.entries ≤ 64) where
-        few : Leaves before m (λ t. length t.entries ≤ 64)
-        few = leaves (λ t. length t.entries ≤ 64) f8
+  -- what comes has its shape
+  sounds : list_all sound rs ≡ true
+  sounds = all_sound (rows records) (ap all_in_range read.1 ∙ read.0.1.1.0)
 
-        pub refused_descriptors : 16 < length after.descriptors → First (table_checks lawful m before) Descriptors
-        refused_descriptors h = inr (lawfully, inr (once, inr (few, inl (refl, λ f. let l = f after merged in omega arith))))
+  pub narrows : narrow rs ≡ true
+  narrows = order_narrow rs (ap set_order (tags_said (rows records) ∙ ap tags read.1) ∙ set_from _ read.0.1.0)
 
-        module _ (f9 : length after.descriptors ≤ 16) where
-          slim : Leaves before m (λ t. length t.descriptors ≤ 16)
-          slim = leaves (λ t. length t.descriptors ≤ 16) f9
+  module _ (lawfully : true ≡ all_lawful lawful (entries_in rs)) (once_es : repeats (mentioned (entries_in rs)) ≡ false) (once_ds : repeats (mentioned (descriptors_in rs)) ≡ false) where
+    once : Once rs
+    once = record { entries = once_es; descriptors = once_ds }
 
-          pub refused_undefined : defined after.entries after.descriptors ≡ false → First (table_checks lawful m before) Undefined
-          refused_undefined e = inr (lawfully, inr (once, inr (few, inr (slim, inl (refl, λ f. both_ways _ e (f after merged))))))
+    abbrev after : Standing
+    after = mk (merging (entries_in rs) (entries_of t)) (merging (descriptors_in rs) (descriptors_of t))
 
-          pub passed : defined after.entries after.descriptors ≡ true → Passed (table_checks lawful m before)
-          passed e = (lawfully, (once, (few, (slim, (leaves (λ t. defined t.entries t.descriptors ≡ true) e, tt)))))
+    merged : Merged (standing t) rs after
+    merged = record { entries = merging_after _ _ once_es t.ordered; descriptors = merging_after _ _ once_ds t.arranged }
 
--- The records that are read are those of the message, and its first checks are met.
-module _ (lawful : Capability → Bool) (octets : List ℕ) (before : Standing) (rs : List Rec) (said : rs ≡ message octets) (sized : Passed (message_checks Set octets)) where
-  pub late : (k : Refusal) → First (table_checks lawful rs before) k → First (set_checks lawful octets before) k
-  late k f = first_later (table_checks lawful (message octets) before) (message_checks Set octets) k sized (subst (λ (m : List Rec). First (table_checks lawful m before) k) said f)
+    -- what holds of it holds of the table after the message
+    leaves : (P : Standing → Type 0) → P after → Leaves (standing t) rs P
+    leaves P p u q = subst P (one_after (standing t) rs after u merged q) p
 
-  pub done : (t : Standing) → Passed (table_checks lawful rs before) → Merged before rs t → Done lawful octets before t
-  done t p q = record {
-    passed = passed_both (table_checks lawful (message octets) before) (message_checks Set octets) sized (subst (λ (m : List Rec). Passed (table_checks lawful m before)) said p);
-    merged = subst (λ (m : List Rec). Merged before m t) said q;
-  }
+    pub many_entries : 64 < length after.entries → First (set_checks lawful octets (standing t)) Entries
+    many_entries h = refused Entries (inr (sym lawfully, inr (once, inl (refl, λ f. let l = f after merged in omega arith))))
 
--- In a message whose first checks are met what comes has its shape.
-module _ (octets : List ℕ) (os : List (List ℕ)) (over : os ≡ rows_of octets) (sized : Passed (message_checks Set octets)) where
-  sounds : list_all sound (says_of os) ≡ true
-  sounds = all_sound os (ap all_in_range over ∙ sized.1.1.0)
+    module _ (es : Bounded Entry 64) (of_es : entry_rows (items es) ≡ after.entries) where
+      few : Leaves (standing t) rs (λ u. length u.entries ≤ 64)
+      few = leaves (λ u. length u.entries ≤ 64) (fits entry_row es _ of_es)
 
-  pub narrows : narrow (says_of os) ≡ true
-  narrows = order_narrow (says_of os) (ap set_order (tags_said os ∙ ap tags over) ∙ set_from _ sized.1.0)
+      pub many_descriptors : 16 < length after.descriptors → First (set_checks lawful octets (standing t)) Descriptors
+      many_descriptors h = refused Descriptors (inr (sym lawfully, inr (once, inr (few, inl (refl, λ f. let l = f after merged in omega arith)))))
 
-  pub stay_named : (xs : List (Numbered Capability)) → list_all is_named xs ≡ true → list_all is_named (merging (entries_in (says_of os)) xs) ≡ true
-  stay_named xs e = merging_all is_named (entries_in (says_of os)) xs (named_in (says_of os) sounds) e
+      module _ (ds : Bounded Descriptor 16) (of_ds : descriptor_rows (items ds) ≡ after.descriptors)
+          (seen_es : List Entry) (seen_ds : List Descriptor) (slice_es : seen_es ≡ items es) (slice_ds : seen_ds ≡ items ds) where
+        slim : Leaves (standing t) rs (λ u. length u.descriptors ≤ 16)
+        slim = leaves (λ u. length u.descriptors ≤ 16) (fits descriptor_row ds _ of_ds)
 
-  pub stay_shaped : (xs : List (Numbered (List (List ℕ)))) → list_all is_shaped xs ≡ true → list_all is_shaped (merging (descriptors_in (says_of os)) xs) ≡ true
-  stay_shaped xs e = merging_all is_shaped (descriptors_in (says_of os)) xs (shaped_in (says_of os) narrows sounds) e
+        -- the test of the slices is of the lists
+        of_seen : (b : Bool) → b ≡ defined (entry_rows seen_es) (descriptor_rows seen_ds) → defined after.entries after.descriptors ≡ b
+        of_seen b e = rw (← of_es, ← of_ds, ← slice_es, ← slice_ds) (sym e)
+
+        pub undefined_members : false ≡ defined (entry_rows seen_es) (descriptor_rows seen_ds) → First (set_checks lawful octets (standing t)) Undefined
+        undefined_members e = refused Undefined (inr (sym lawfully, inr (once, inr (few, inr (slim, inl (refl, λ f. both_ways _ (of_seen false e) (f after merged)))))))
+
+        module _ (whole : true ≡ defined (entry_rows seen_es) (descriptor_rows seen_ds)) where
+          abbrev made : Standing
+          made = mk (entry_rows (items es)) (descriptor_rows (items ds))
+
+          same : after ≡ made
+          same = same_standing after made (sym of_es) (sym of_ds)
+
+          pub taken : Done lawful octets (standing t) made
+          taken = record {
+            passed = passed_both (checks (message octets)) (message_checks Set octets) read.0
+                (subst (λ (m : List Rec). Passed (checks m)) said (sym lawfully, (once, (few, (slim, (leaves (λ u. defined u.entries u.descriptors ≡ true) (of_seen true whole), tt))))));
+            merged = subst (λ (m : List Rec). Merged (standing t) m made) said (subst (Merged (standing t) rs) same merged);
+          }
+
+          pub keeps : Keeps made
+          keeps = subst Keeps same (record {
+            entries_rise = merged.entries.order;
+            entries_few = fits entry_row es _ of_es;
+            entries_named = merging_all is_named (entries_in rs) (entries_of t) (named_in rs sounds) t.named;
+            descriptors_rise = merged.descriptors.order;
+            descriptors_few = fits descriptor_row ds _ of_ds;
+            descriptors_shaped = merging_all is_shaped (descriptors_in rs) (descriptors_of t) (shaped_in rs narrows sounds) t.shaped;
+            members_defined = of_seen true whole;
+          })

@@ -1,5 +1,5 @@
 pub mod Marks
-pub mod All
+pub mod Placed
 pub mod Shapes
 pub mod Judged
 pub mod OneAnswer

@@ -1,63 +1,47 @@
 -- The turns of the loop that marks the numbers that are named.
-use Rattle.std.proofs.Common.{◌≡◌, ℕ, Bool, true, false, ◌||◌, eqb, List, [], ◌∷◌, sym, refl, ap, ◌∙◌, inl, inr}
-use Rattle.std.proofs.lemmas.Bool.{cases_eq, eq-eqb, ne_eqb}
+use Rattle.std.proofs.Common.{◌≡◌, ℕ, Bool, true, false, not, ◌||◌, eqb, List, [], ◌∷◌, Some, None, Option, sym, refl, ap, ◌∙◌, subst, arith, rules}
+use Rattle.std.specs.List.{list_any}
+use Rattle.std.proofs.lemmas.Bool.Decides.{nat_tests}
+use Rattle.records.specs.declared.held.Said.{Said}
+use Rattle.records.specs.Layout.{Rec, rec_of}
+use Rattle.records.specs.Reads.{rec, says_of}
+use Rattle.records.proofs.Rows.{says_more}
 use Rattle.keyed.specs.Keyed.{among, repeats}
-
--- one of the numbers is marked
-abbrev hits : (ℕ → Bool) → List ℕ → Bool
-hits h [] = false
-hits h (n ∷ ns) = h n || hits h ns
+use Rattle.table.specs.Turns.{Lists}
 
 -- Where `left` is left of `all`, those before are marked by h, and no number stands there twice so far.
 pub record Marked (h : ℕ → Bool) (left all : List ℕ) : Type 0 where
-  pub once : (repeats left || hits h left) ≡ repeats all
+  pub once : (repeats left || list_any h left) ≡ repeats all
   pub held : (n : ℕ) → (h n || among n left) ≡ among n all
 
-or_false : (b : Bool) → (b || false) ≡ b
-or_false true = refl
-or_false false = refl
-
-none_hit : (h : ℕ → Bool) (ns : List ℕ) → ((n : ℕ) → h n ≡ false) → hits h ns ≡ false
-none_hit h [] f = refl
-none_hit h (n ∷ ns) f = ap (λ (b : Bool). b || hits h ns) (f n) ∙ none_hit h ns f
+none_any : (h : ℕ → Bool) (ns : List ℕ) → ((n : ℕ) → h n ≡ false) → list_any h ns ≡ false
+none_any h [] f = refl
+none_any h (n ∷ ns) f = let i = none_any h ns f in let p = f n in grind rules
 
 pub marked_none : (h : ℕ → Bool) (all : List ℕ) → ((n : ℕ) → h n ≡ false) → Marked h all all
-marked_none h all f = record {
-  once = ap (λ (b : Bool). repeats all || b) (none_hit h all f) ∙ or_false (repeats all);
-  held = λ n. ap (λ (b : Bool). b || among n all) (f n);
-}
+marked_none h all f = record { once = let i = none_any h all f in grind rules; held = λ n. let p = f n in grind rules }
 
-eqb_sym : (a b : ℕ) → eqb a b ≡ eqb b a
-eqb_sym a b = elim (cases_eq a b) [
-  | inl e ↦ eq-eqb a b e ∙ sym (eq-eqb b a (sym e))
-  | inr e ↦ ne_eqb a b e ∙ sym (ne_eqb b a (λ f. e (sym f)))
-]
+-- at the end those that are marked are all of them, none twice
+pub marked_all : (h : ℕ → Bool) (left all : List ℕ) → left ≡ [] → Marked h left all → (repeats all ≡ false) × ((n : ℕ) → h n ≡ among n all)
+marked_all h left all e m = let m' = subst (λ (ns : List ℕ). Marked h ns all) e m in (sym m'.once, λ n. let o = m'.held n in grind rules)
 
--- a b c, once as the one has it and once as the other
-turned : (a b c : Bool) → ((a || b) || c) ≡ (b || (a || c))
-turned true true c = refl
-turned true false c = refl
-turned false b c = refl
+-- a number that is marked stands there twice
+pub marked_twice : (h : ℕ → Bool) (n : ℕ) (left all : List ℕ) → false ≡ not (h n) → Marked h (n ∷ left) all → repeats all ≡ true
+marked_twice h n left all t m = let o = m.once in grind rules
 
 module _ (h g : ℕ → Bool) (n : ℕ) (put : (k : ℕ) → g k ≡ (eqb k n || h k)) where
-  hits_put : (ns : List ℕ) → hits g ns ≡ (among n ns || hits h ns)
-  hits_put [] = refl
-  hits_put (k ∷ ns) =
-      ap (λ (b : Bool). b || hits g ns) (put k) ∙ ap (λ (b : Bool). (eqb k n || h k) || b) (hits_put ns) ∙ shuffled (eqb k n) (h k) (among n ns) (hits h ns)
-    where
-      shuffled : (a b c d : Bool) → ((a || b) || (c || d)) ≡ ((a || c) || (b || d))
-      shuffled true b c d = refl
-      shuffled false true true d = refl
-      shuffled false true false d = refl
-      shuffled false false c d = refl
+  any_put : (ns : List ℕ) → list_any g ns ≡ (among n ns || list_any h ns)
+  any_put [] = refl
+  any_put (k ∷ ns) = let i = any_put ns in let p = put k in grind rules
 
   -- a number that was not marked is marked
-  pub marked_more : (left all : List ℕ) → h n ≡ false → Marked h (n ∷ left) all → Marked g left all
-  marked_more left all f m = record {
-    once =
-        ap (λ (b : Bool). repeats left || b) (hits_put left) ∙ sym (turned (among n left) (repeats left) (hits h left))
-        ∙ ap (λ (b : Bool). (among n left || repeats left) || (b || hits h left)) (sym f) ∙ m.once;
-    held = λ k.
-        ap (λ (b : Bool). b || among k left) (put k ∙ ap (λ (b : Bool). b || h k) (eqb_sym k n))
-        ∙ turned (eqb n k) (h k) (among k left) ∙ m.held k;
-  }
+  pub marked_more : (left all : List ℕ) → true ≡ not (h n) → Marked h (n ∷ left) all → Marked g left all
+  marked_more left all fresh m = record { once = let i = any_put left in let o = m.once in grind rules; held = λ k. let p = put k in let o = m.held k in grind (arith, nat_tests) }
+
+-- One more record is read, and its number with it.
+module _ {reads : Said → Option ℕ → Type 0} {numbers : List Rec → List ℕ} (lists : Lists reads numbers) (h : ℕ → Bool) (all : List ℕ) (os : List (List ℕ)) {left : List (List ℕ)} {o : List ℕ} (said : Said) (goes : os ≡ o ∷ left) (says : rec said ≡ rec_of o) where
+  pub reads_one : (n : ℕ) → reads said (Some n) → Marked h (numbers (says_of os)) all → Marked h (n ∷ numbers (says_of left)) all
+  reads_one n read m = subst (λ (ns : List ℕ). Marked h ns all) (ap numbers (says_more os left o (rec said) goes says) ∙ lists.each said (Some n) read (says_of left)) m
+
+  pub reads_none : reads said None → Marked h (numbers (says_of os)) all → Marked h (numbers (says_of left)) all
+  reads_none read m = subst (λ (ns : List ℕ). Marked h ns all) (ap numbers (says_more os left o (rec said) goes says) ∙ lists.each said None read (says_of left)) m

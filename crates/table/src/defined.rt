@@ -11,34 +11,22 @@ use keyed::find;
 fn are_members_defined(entries: &[Entry], members: &[u16]) -> bool
     ensures { result ≡ all_defined (entry_rows entries.now) members.now }
 {
-    for m in members {
-        let Some(_) = find(entries, *m) else {
-            return false;
-        };
-    }
-    true
+    members.iter().all(|m| find(entries, *m).is_some())
 }
 
 // Whether each member of each set names an entry.
 fn are_sets_defined(entries: &[Entry], sets: &[AlternativeSet]) -> bool
     ensures { result ≡ sets_defined (entry_rows entries.now) (map members_of sets.now) }
 {
-    for s in sets {
-        if !are_members_defined(entries, s.members.as_slice()) {
-            return false;
-        }
-    }
-    true
+    sets.iter()
+        .all(|s| are_members_defined(entries, &s.members))
 }
 
 /// Whether each member of each set of each descriptor names an entry.
 pub(crate) fn are_defined(entries: &[Entry], descriptors: &[Descriptor]) -> bool
     ensures { result ≡ defined (entry_rows entries.now) (descriptor_rows descriptors.now) }
 {
-    for d in descriptors {
-        if !are_sets_defined(entries, d.sets.as_slice()) {
-            return false;
-        }
-    }
-    true
+    descriptors
+        .iter()
+        .all(|d| are_sets_defined(entries, &d.sets))
 }

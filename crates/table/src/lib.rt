@@ -7,7 +7,6 @@ mod defined;
 mod held;
 mod laws;
 mod merge;
-mod part;
 mod set;
 mod standing;
 

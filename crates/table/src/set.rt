@@ -9,9 +9,8 @@ ghost use Rattle.table.specs.Rows.{entry_rows, descriptor_rows};
 ghost use Rattle.table.specs.Sets.{entries_of, descriptors_of, standing, set_checks, Done, Sets};
 
 use super::defined::are_defined;
-use super::held::{AlternativeSet, Descriptor, Entry};
-use super::merge::{merged_descriptors, merged_entries, numbers_named};
-use super::part::Part;
+use super::held::{Descriptor, Entry};
+use super::merge::{descriptors_named, entries_named, merged_descriptors, merged_entries};
 use super::standing::Table;
 use bounded::Bounded;
 use judges::{Capability, Judge};
@@ -20,18 +19,13 @@ use records::{Cursor, Form, Said, check_message};
 use refusals::Refusal;
 
 // Whether each entry of a message is lawful.
-fn are_lawful<J: Judge>(judge: &J, message: Cursor) -> bool
+fn are_lawful<J: Judge>(judge: &J, mut message: Cursor) -> bool
     ensures { result ≡ all_lawful (J.Judge.lawful judge.now) (entries_in (says message.entry)) }
 {
-    let mut left = message;
-    while let Some(said) = left.read() {
-        if let Said::Entry(_, capability) = said {
-            if !judge.is_lawful(&capability) {
-                return false;
-            }
-        }
-    }
-    true
+    message.all(|record| match record.said() {
+        Said::Entry(_, capability) => judge.is_lawful(&capability),
+        _ => true,
+    })
 }
 
 impl Table {
@@ -39,23 +33,9 @@ impl Table {
     pub fn new() -> Table
         ensures { (entries_of result ≡ []) × (descriptors_of result ≡ []) }
     {
-        let entry = Entry {
-            number: 0,
-            capability: Capability {
-                kind: 0,
-                p: 0,
-                q: 0,
-            },
-        };
-        let descriptor = Descriptor {
-            number: 0,
-            sets: Bounded::new(AlternativeSet {
-                members: Bounded::new(0),
-            }),
-        };
         Table {
-            entries: Bounded::new(entry),
-            descriptors: Bounded::new(descriptor),
+            entries: Bounded::default(),
+            descriptors: Bounded::default(),
         }
     }
 
@@ -63,10 +43,7 @@ impl Table {
     pub fn entry(&self, number: u16) -> Option<Capability>
         ensures { result ≡ at (entries_of self.now) number }
     {
-        let Some(entry) = find(self.entries.as_slice(), number) else {
-            return None;
-        };
-        Some(entry.capability)
+        find(&self.entries, number).map(|e| e.capability)
     }
 
     /// The entries, by rising number.
@@ -74,7 +51,7 @@ impl Table {
         ensures list { entry_rows result.now ≡ entries_of self.now }
         ensures most { length result.now ≤ 64 }
     {
-        self.entries.as_slice()
+        &self.entries
     }
 
     /// The descriptors, by rising number.
@@ -82,7 +59,7 @@ impl Table {
         ensures list { descriptor_rows result.now ≡ descriptors_of self.now }
         ensures most { length result.now ≤ 16 }
     {
-        self.descriptors.as_slice()
+        &self.descriptors
     }
 
     /// The table after a set message, or the first refusal in order.
@@ -93,20 +70,11 @@ impl Table {
         if !are_lawful(judge, records) {
             return Err(Refusal::Unlawful);
         }
-        let Some(named_entries) = numbers_named(Part::Entries, records) else {
-            return Err(Refusal::Twice);
-        };
-        let Some(named_descriptors) = numbers_named(Part::Descriptors, records) else {
-            return Err(Refusal::Twice);
-        };
-        let Some(entries) = merged_entries(&self.entries, &named_entries, records) else {
-            return Err(Refusal::Entries);
-        };
-        let Some(descriptors) = merged_descriptors(&self.descriptors, &named_descriptors, records)
-        else {
-            return Err(Refusal::Descriptors);
-        };
-        if !are_defined(entries.as_slice(), descriptors.as_slice()) {
+        let entry_numbers = entries_named(records)?;
+        let descriptor_numbers = descriptors_named(records)?;
+        let entries = merged_entries(&self.entries, &entry_numbers, records)?;
+        let descriptors = merged_descriptors(&self.descriptors, &descriptor_numbers, records)?;
+        if !are_defined(&entries, &descriptors) {
             return Err(Refusal::Undefined);
         }
         Ok(Table {

@@ -62,8 +62,8 @@ module _ (own : ℕ) (note : List NoteRow) (scratch : List ℕ) (rows : 16 ≤ l
   nothing : (n : ℕ) (p : Proposal) → (n ≡ 0 → ⊥) → Ends standard_lawful standard_covers own with_nothing (ask n p note scratch) (refused NotSupported)
   nothing n p some =
       refusal
-      (ask_early standard_lawful standard_covers own with_nothing n p note scratch room rows NotSupported
-      (inr (some, inr ((λ h. none_at h.1), inl (refl, λ s. omega (arith, s.1.1.0))))))
+      (ask_early standard_lawful standard_covers own with_nothing n p note scratch room NotSupported
+      (inr (rows, inr (some, inr ((λ h. none_at h.1), inl (refl, λ s. omega (arith, s.1.1.0))))))).0
 
   alone : (n : ℕ) → (n ≡ 0 → ⊥) → Ends standard_lawful standard_covers own with_an_entry (ask n (wanted 1 20 0) note scratch) (refused (NotAvailable 0))
   alone n some =

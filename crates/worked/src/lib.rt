@@ -5,8 +5,6 @@
 ghost use Rattle.worked.specs.Examples.{WorkedExamples};
 
 /// The worked examples hold.
-pub fn worked_examples() -> u8
+pub fn worked_examples()
     ensures { WorkedExamples }
-{
-    0
-}
+{}

@@ -1,18 +1,15 @@
-use Rattle.std.proofs.Common.{arith}
-use Rattle.keyed.proofs.Turns.{place_here, place_next, place_end}
+use Rattle.std.proofs.Common.{◌<◌, ◌≤◌, sym, refl, ◌∙◌, rules}
+use borrow.Author.Tests.{tests}
+use Rattle.std.proofs.lemmas.Iterator.{YieldsList-from_slice, IsFirst-from_position, index_from_first}
+use Rattle.keyed.specs.Merge.{place}
+use Rattle.keyed.proofs.Turns.{place_here, place_after}
 use Rattle.keyed.proofs.lists.place_of.Goals as goal
 
-pub returns-then-number : goal.returns-then-number
-returns-then-number g c =
-    let z = place_here g.T.ByNumber.key c.args.list.now c.loop-i.i c.args.number c.index-list-i.result c.loop-i-test.true c.index-list-i.is (omega (arith, c.number.ensures)) in
-    record { at = omega (arith, c.loop-i.invariant, z); most = omega arith }
-
-pub loop-i-preserved : goal.loop-i-preserved
-loop-i-preserved g c =
-    let z = place_next g.T.ByNumber.key c.args.list.now c.loop-i.i c.args.number c.index-list-i.result c.loop-i-test.true c.index-list-i.is (omega (arith, c.number.ensures)) in
-    omega (arith, c.loop-i.invariant, z)
-
-pub returns : goal.returns
-returns g c =
-    let z = place_end g.T.ByNumber.key c.args.list.now c.loop-i.i c.args.number c.loop-i-test.false in
-    record { at = omega (arith, c.loop-i.invariant, z, c.loop-i.auto.i-end); most = omega arith }
+pub returns-clause-at : goal.returns-clause-at
+returns-clause-at g c =
+    let key = g.T.ByNumber.key in
+    let xs = c.args.list.now in
+    let n = c.args.number in
+    c.unwrap_or.ensures
+    ∙ sym (index_from_first (λ l. place key l n) (λ x. n ≤ key x) (λ x. key x < n) refl (place_here key n) (place_after key n) xs c.position.result
+    (IsFirst-from_position _ _ _ (λ x. n ≤ key x) (λ x. key x < n) c.position.ensures.ran (YieldsList-from_slice xs cc) (λ x q k. search (rules, tests)) (λ x q k. search (rules, tests))))

@@ -1,16 +1,13 @@
-use Rattle.std.proofs.Common.{◌≡◌, ap, ◌∙◌}
+use Rattle.std.proofs.Common.{◌≡◌, sym}
 use Rattle.bounded.specs.Items.{items}
-use Rattle.keyed.specs.Merge.{place}
-use Rattle.keyed.proofs.Turns.{put_list, put_room}
+use Rattle.std.specs.List.{insert}
+use Rattle.keyed.specs.Merge.{putting}
+use Rattle.keyed.proofs.Turns.{inserted_place}
 use Rattle.keyed.proofs.lists.put.Goals as goal
 
-pub returns : goal.returns
-returns g c =
+pub returns-clause-ok : goal.returns-clause-ok
+returns-clause-ok g c =
     let key = g.T.ByNumber.key in
     let xs = items c.args.list.now in
-    let slice = c.as_slice.result.now in
-    let p : c.place_of-at.result ≡ place key slice (key c.args.x) = c.place_of-at.ensures.at ∙ ap (place key slice) c.number.ensures in
-    record {
-      list = put_list key g.row.N xs slice c.args.x c.place_of-at.result c.insert.result c.as_slice.ensures.list p _ c.insert.ensures.list;
-      room = put_room key g.row.N xs slice c.args.x c.place_of-at.result c.insert.result c.as_slice.ensures.list p c.place_of-at.ensures.most c.insert.ensures.room;
-    }
+    let e : insert xs c.place_of-at.result c.args.x ≡ putting key c.args.x xs = rw (c.place_of-at.ensures.at, c.as_slice.ensures.list, c.number.ensures) (inserted_place key c.args.x xs) in
+    rw (sym e) c.insert.ensures.ok

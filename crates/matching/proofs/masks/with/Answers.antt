@@ -7,7 +7,7 @@ pub returns : goal.returns
 returns c =
     let x = c.args.mask in
     let s = c.args.s in
-    let e : (1 * 2 ^ s) % 2 ^ 32 ≡ 2 ^ s = one_shl s 32 c.requires in
+    let e : (1 * 2 ^ s) % 2 ^ 64 ≡ 2 ^ s = one_shl s 64 c.requires in
     rw e (record {
       here = set_here x s;
       other = set_other x s;

@@ -5,8 +5,8 @@ use Rattle.modes.specs.Modes.{elements_in}
 use Rattle.modes.specs.Elements.{rows_from}
 use Rattle.modes.proofs.element.elements_after.Given as goal
 
-abbrev pub invariant-loop-said : goal.invariant-loop-said
-invariant-loop-said l = items l.list ++ rows_from (length (items l.list)) (elements_in (says l.left)) ≡ rows_from 0 (elements_in (says l.message))
+abbrev pub invariant-loop-proposal : goal.invariant-loop-proposal
+invariant-loop-proposal l = items l.list ++ rows_from (length (items l.list)) (elements_in (says l.left)) ≡ rows_from 0 (elements_in (says l.message))
 
-abbrev pub decreases-loop-said : goal.decreases-loop-said
-decreases-loop-said l = length (says l.left)
+abbrev pub decreases-loop-proposal : goal.decreases-loop-proposal
+decreases-loop-proposal l = length (says l.left)

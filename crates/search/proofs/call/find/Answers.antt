@@ -1,16 +1,18 @@
-use Rattle.std.proofs.Common.{◌<◌, List, map, length, sym, subst, arith}
+use Rattle.std.proofs.Common.{List, map, take, sym, subst, arith}
 use Rattle.std.proofs.lemmas.List.{length-map, take-map}
 use Rattle.judges.specs.declared.words.Proposal.{Proposal}
 use Rattle.table.specs.Sets.{standing}
 use Rattle.search.specs.Answers.{Outcome}
-use Rattle.search.proofs.Front.{found_front, narrow}
+use Rattle.search.proofs.Front.{found_few}
 use Rattle.search.proofs.call.find.Goals as goal
 
-pub returns-then-rows-gt-MOST : goal.returns-then-rows-gt-MOST
-returns-then-rows-gt-MOST g c =
+pub returns : goal.returns
+returns g c =
     let t = c.args.table.now in
     let covers = g.J.Judge.covers c.args.judge.now in
-    let ps = map g.R.Row.asks c.args.rows.now in
-    let many : 17 < length ps = omega (arith, length-map c.args.rows.now g.R.Row.asks) in
-    found_front covers (standing t) 17 ps many (narrow t) c.among.result
-    (subst (λ (qs : List Proposal). Outcome covers (standing t) qs c.among.result) (sym (take-map g.R.Row.asks 17 c.args.rows.now)) c.among.ensures)
+    let rows = c.args.rows.now in
+    let ps = map g.R.Row.asks rows in
+    let n = c.min.result in
+    let o = c.search_each.ensures covers (map g.R.Row.asks (take n rows)) c.cover-covers.ensures t.ordered t.arranged in
+    found_few covers t ps n c.search_each.result (omega (arith, c.min.ensures, length-map rows g.R.Row.asks))
+    (subst (λ (qs : List Proposal). Outcome covers (standing t) qs c.search_each.result) (sym (take-map g.R.Row.asks n rows)) o)

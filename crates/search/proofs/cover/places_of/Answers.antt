@@ -1,37 +1,25 @@
-use Rattle.std.proofs.Common.{◌+◌, ◌<◌, Bool, length, get_or, take, sym, ◌∙◌, subst, arith}
-use Rattle.std.proofs.lemmas.List.{get_or_default}
+use Rattle.std.proofs.Common.{◌≡◌, ℕ, Bool, eqb, List, [], ◌∷◌, ◌||◌, refl, ap, ◌∙◌, rules}
+use Rattle.std.specs.List.{list_any}
+use Rattle.bounded.specs.Bit.{bit}
 use Rattle.judges.specs.declared.words.Capability.{Capability}
-use Rattle.table.specs.declared.held.Entry.{Entry}
 use Rattle.keyed.specs.Keyed.{Numbered, among}
 use Rattle.table.specs.Rows.{entry_row}
-use Rattle.search.proofs.Places.{Masks, masks_none, masks_on, masks_off, masks_all, pass_map}
+use Rattle.table.specs.Sets.{entries_of}
+use Rattle.search.proofs.Places.{mask_mapped}
 use Rattle.search.proofs.cover.places_of.Goals as goal
 
-abbrev none : Entry
-none = record { number = 0; capability = record { kind = 0; p = 0; q = 0 } }
-
-pub loop-k-init : goal.loop-k-init
-loop-k-init c = masks_none (λ (e : Entry). among e.number c.args.members.now) c.args.entries.now
-
-pub loop-k-preserved : goal.loop-k-preserved
-loop-k-preserved c =
-    let P : Entry → Bool = λ e. among e.number c.args.members.now in
-    let es = c.args.entries.now in
-    let i = c.loop-k.k in
-    let x : Entry = get_or es i none in
-    let h : i < length es = omega arith in
-    elim c.if-is_member.branch [
-      | goal.then-is_member w ↦
-          subst (Masks P (take (i + 1) es)) (sym w.mask-is)
-          (masks_on P es i x h (get_or_default es i none x h) c.loop-k.mask c.loop-k.invariant w.with_place-mask.result (sym w.if-is_member.ensures) w.with_place-mask.ensures.here w.with_place-mask.ensures.other)
-      | goal.else-is_member w ↦
-          subst (Masks P (take (i + 1) es)) (sym w.mask-is)
-          (masks_off P es i x h (get_or_default es i none x h) c.loop-k.mask c.loop-k.invariant (sym w.if-is_member.ensures))
-    ]
+-- a number is contained where it is among the members
+contained : (n : ℕ) (ms : List ℕ) → list_any (λ m. eqb m n) ms ≡ among n ms
+contained n [] = refl
+contained n (m ∷ ms) = ap (λ (b : Bool). eqb m n || b) (contained n ms)
 
 pub returns : goal.returns
 returns c =
-    let P : Entry → Bool = λ e. among e.number c.args.members.now in
-    let Q : Numbered Capability → Bool = λ e. among e.number c.args.members.now in
-    let es = c.args.entries.now in
-    λ k. masks_all P es c.loop-k.k c.loop-k.mask c.loop-k-test.false c.loop-k.invariant k ∙ sym (pass_map entry_row Q es k)
+    let members = c.args.members.now in
+    let P : Numbered Capability → Bool = λ e. among e.number members in
+    mask_mapped entry_row P c.entries.result.now (entries_of c.args.table.now) c.mask_where.result c.entries.ensures.list
+    (λ k x l is.
+    let says = c.mask_where.ensures.items k x l is in
+    let any : bit c.mask_where.result k ≡ list_any (λ m. eqb m x.number) members = search rules in
+    any ∙ contained x.number members)
+    c.mask_where.ensures.beyond

@@ -7,5 +7,5 @@ use Rattle.search.proofs.seats.first_covering.Given as goal
 
 abbrev pub invariant-loop-m : goal.invariant-loop-m
 invariant-loop-m g l =
-    first_pass (λ m. covering (g.J.Judge.covers l.judge) l.p (at (entries_of l.table) m)) (drop l.m-index l.members)
-    ≡ first_pass (λ m. covering (g.J.Judge.covers l.judge) l.p (at (entries_of l.table) m)) l.members
+    first_pass (λ m. covering (g.J.Judge.covers l.judge) l.proposal (at (entries_of l.table) m)) (drop l.m-index l.members)
+    ≡ first_pass (λ m. covering (g.J.Judge.covers l.judge) l.proposal (at (entries_of l.table) m)) l.members

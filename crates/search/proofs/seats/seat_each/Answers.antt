@@ -1,44 +1,37 @@
-use Rattle.std.proofs.Common.{List, map, sym, refl, subst, arith}
+use Rattle.std.proofs.Common.{List, map, length, refl, ap, arith}
 use Rattle.std.proofs.lemmas.List.{length-map}
-use Rattle.bounded.specs.Items.{items}
-use Rattle.table.specs.declared.held.AlternativeSet.{AlternativeSet}
-use Rattle.table.specs.Rows.{members_of, descriptor_row, descriptor_rows}
-use Rattle.table.specs.Sets.{Standing, entries_of}
-use Rattle.search.specs.Carrying.{usable, Carries}
-use Rattle.search.specs.Lists.{At}
-use Rattle.search.specs.Seats.{Seats}
-use Rattle.search.proofs.Covers.{at_mapped}
+use Rattle.table.specs.Rows.{descriptor_row}
+use Rattle.table.specs.Sets.{standing}
+use Rattle.search.specs.Answers.{Stands}
+use Rattle.search.proofs.Covers.{at_read}
 use Rattle.search.proofs.Outcomes.{least, past_more}
 use Rattle.search.proofs.seats.seat_each.Goals as goal
 
 pub returns-in-Some : goal.returns-in-Some
 returns-in-Some g c =
     let covers = g.J.Judge.covers c.args.judge.now in
-    let t : Standing = record { entries = entries_of c.args.table.now; descriptors = descriptor_rows c.args.descriptors.now } in
-    let ps = map g.R.Row.asks c.args.rows.now in
-    let d = descriptor_row c.d-item.result in
-    let here : At d t.descriptors c.loop-d.d-index = at_mapped descriptor_row c.args.descriptors.now c.loop-d.d-index c.d-item.result (c.loop-d-test.true, sym c.d-item.is) in
+    let t = standing c.args.table.now in
+    let d = descriptor_row c.descriptor-item.result in
+    let here = at_read descriptor_row c.descriptors-descriptor-items.result.now t.descriptors c.loop-descriptor.descriptor-index c.descriptor-item.result c.descriptors-descriptor-items.ensures.list c.loop-descriptor-test.true c.descriptor-item.is in
     record {
       smallest = record {
         descriptor = d;
-        stands = (c.loop-d.d-index, here);
-        carries = subst (λ (u : List AlternativeSet). Carries (usable covers t.entries) (map members_of u) ps) c.as_slice.ensures.list c.in-Some.ensures.0;
+        stands = (c.loop-descriptor.descriptor-index, here);
+        carries = c.in-Some.ensures.0;
         number = refl;
-        least = least covers t ps c.requires.order_and_sizes.0 c.loop-d.d-index d here c.loop-d.invariant;
+        least = least covers t (map g.R.Row.asks c.args.rows.now) c.args.table.now.arranged c.loop-descriptor.descriptor-index d here c.loop-descriptor.invariant;
       };
-      seats = subst (λ (u : List AlternativeSet). Seats g.R.NumberedRow.named g.R.Row.asks covers t.entries (map members_of u) c.args.rows.now (items c.in-Some.seats)) c.as_slice.ensures.list c.in-Some.ensures.1;
+      seats = c.in-Some.ensures.1;
     }
 
-pub loop-d-preserved : goal.loop-d-preserved
-loop-d-preserved g c =
-    let covers = g.J.Judge.covers c.args.judge.now in
-    let t : Standing = record { entries = entries_of c.args.table.now; descriptors = descriptor_rows c.args.descriptors.now } in
-    let ps = map g.R.Row.asks c.args.rows.now in
-    let d = descriptor_row c.d-item.result in
-    let here : At d t.descriptors c.loop-d.d-index = at_mapped descriptor_row c.args.descriptors.now c.loop-d.d-index c.d-item.result (c.loop-d-test.true, sym c.d-item.is) in
-    past_more covers t ps c.loop-d.d-index d here
-    (subst (λ (u : List AlternativeSet). Carries (usable covers t.entries) (map members_of u) ps → ⊥) c.as_slice.ensures.list c.in_default.ensures)
-    c.loop-d.invariant
+pub loop-descriptor-preserved : goal.loop-descriptor-preserved
+loop-descriptor-preserved g c =
+    let t = standing c.args.table.now in
+    let d = descriptor_row c.descriptor-item.result in
+    past_more (g.J.Judge.covers c.args.judge.now) t (map g.R.Row.asks c.args.rows.now) c.loop-descriptor.descriptor-index d
+    (at_read descriptor_row c.descriptors-descriptor-items.result.now t.descriptors c.loop-descriptor.descriptor-index c.descriptor-item.result c.descriptors-descriptor-items.ensures.list c.loop-descriptor-test.true c.descriptor-item.is)
+    c.in_default.ensures c.loop-descriptor.invariant
 
 pub returns : goal.returns
-returns g c d a carries = c.loop-d.invariant a.0 d (omega (arith, a.1.0, length-map c.args.descriptors.now descriptor_row)) a.1 carries
+returns g c d a carries =
+    c.loop-descriptor.invariant a.0 d (omega (arith, a.1.0, ap (λ (u : List Stands). length u) c.descriptors-descriptor-items.ensures.list, length-map c.descriptors-descriptor-items.result.now descriptor_row)) a.1 carries

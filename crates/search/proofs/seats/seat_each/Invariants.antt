@@ -1,8 +1,7 @@
 use Rattle.std.proofs.Common.{map}
-use Rattle.table.specs.Rows.{descriptor_rows}
-use Rattle.table.specs.Sets.{entries_of}
+use Rattle.table.specs.Sets.{standing}
 use Rattle.search.proofs.Outcomes.{Past}
 use Rattle.search.proofs.seats.seat_each.Given as goal
 
-abbrev pub invariant-loop-d : goal.invariant-loop-d
-invariant-loop-d g l = Past (g.J.Judge.covers l.judge) (record { entries = entries_of l.table; descriptors = descriptor_rows l.descriptors }) (map g.R.Row.asks l.rows) l.d-index
+abbrev pub invariant-loop-descriptor : goal.invariant-loop-descriptor
+invariant-loop-descriptor g l = Past (g.J.Judge.covers l.judge) (standing l.table) (map g.R.Row.asks l.rows) l.descriptor-index

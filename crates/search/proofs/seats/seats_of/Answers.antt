@@ -1,33 +1,29 @@
-use Rattle.std.proofs.Common.{◌≡◌, [], ◌∷◌, ◌++◌, map, length, sym, ◌∙◌, arith}
-use Rattle.std.proofs.lemmas.List.{length-map}
-use Rattle.std.proofs.lemmas.Bool.{cond-true, lt-ltb}
+use Rattle.std.proofs.Common.{◌≡◌, map, length, sym, refl, arith}
 use Rattle.bounded.specs.Items.{items}
 use Rattle.matching.specs.Calls.{at}
-use Rattle.table.specs.Rows.{members_of}
+use Rattle.table.specs.Rows.{sets_of}
 use Rattle.table.specs.Sets.{entries_of}
-use Rattle.search.proofs.Pairs.{paired_more}
-use Rattle.search.proofs.Seated.{Held, seats_all, has_seat}
+use Rattle.search.specs.Carrying.{usable}
+use Rattle.search.specs.Filling.{uses}
+use Rattle.search.proofs.Pairs.{paired_push}
+use Rattle.search.proofs.Seated.{Held, seats_all, has_seat, placed_few}
 use Rattle.search.proofs.seats.seats_of.Goals as goal
 
-pub returns-in_default : goal.returns-in_default
-returns-in_default g c =
-    let sets = map members_of c.args.sets.now in
-    absurd (has_seat g.R.NumberedRow.named g.R.Row.asks (g.J.Judge.covers c.args.judge.now) (entries_of c.args.table.now) sets (at c.args.holders.now) c.args.rows.now
-    (length c.args.sets.now) (length-map c.args.sets.now members_of) c.requires.placed c.loop-r.r c.index-rows-r.result (c.loop-r-test.true, sym c.index-rows-r.is) c.in_default.ensures)
+pub returns-in_err-seat : goal.returns-in_err-seat
+returns-in_err-seat g c =
+    absurd (has_seat g.R.ByNumber.key g.R.Row.asks (g.J.Judge.covers c.args.judge.now) (entries_of c.args.table.now) (sets_of c.args.descriptor.now) (at c.args.holders.now) c.args.rows.now
+    (length (sets_of c.args.descriptor.now)) refl c.requires.placed c.loop-place.place _ (c.loop-place-test.true, sym c.index-rows-place.is) c.in_err-seat.ensures)
 
-pub loop-r-preserved : goal.loop-r-preserved
-loop-r-preserved g c =
-    let seats = items c.loop-r.seats in
-    let w = c.in-Some.seat in
-    let inv = c.loop-r.invariant in
-    paired_more (Held g.R.NumberedRow.named g.R.Row.asks (g.J.Judge.covers c.args.judge.now) (entries_of c.args.table.now) (map members_of c.args.sets.now) (at c.args.holders.now) c.args.rows.now) c.args.rows.now
-    c.loop-r.r seats (items c.push-room.new.self) c.index-rows-r.result w (c.loop-r-test.true, sym c.index-rows-r.is)
-    c.in-Some.ensures
-    (c.push-room.ensures.list ∙ cond-true c.push-room.result (seats ++ w ∷ []) seats (c.push-room.ensures.room ∙ lt-ltb (length seats) 16 (omega (arith, inv.long, c.requires.sizes))))
-    inv
+pub loop-place-preserved : goal.loop-place-preserved
+loop-place-preserved g c =
+    let rows = c.args.rows.now in
+    let few = placed_few (uses (usable (g.J.Judge.covers c.args.judge.now) (entries_of c.args.table.now)) (sets_of c.args.descriptor.now) (map g.R.Row.asks rows)) (length rows) c.args.descriptor.now (at c.args.holders.now) c.requires.placed in
+    paired_push (Held g.R.ByNumber.key g.R.Row.asks (g.J.Judge.covers c.args.judge.now) (entries_of c.args.table.now) (sets_of c.args.descriptor.now) (at c.args.holders.now) rows) rows
+    c.loop-place.place 16 (items c.loop-place.seats) (items c.push.new.self) c.index-rows-place.result c.in_ok-seat.seat c.push.result
+    (omega arith) c.push.ensures.variant c.push.ensures.ok (c.loop-place-test.true, sym c.index-rows-place.is) c.in_ok-seat.ensures c.loop-place.invariant
 
 pub returns : goal.returns
 returns g c =
-    let the_end : length c.args.rows.now ≡ c.loop-r.r = omega arith in
-    seats_all g.R.NumberedRow.named g.R.Row.asks (g.J.Judge.covers c.args.judge.now) (entries_of c.args.table.now) (map members_of c.args.sets.now) (at c.args.holders.now) c.args.rows.now
-    c.loop-r.r (items c.loop-r.seats) the_end c.loop-r.invariant
+    let the_end : length c.args.rows.now ≡ c.loop-place.place = omega arith in
+    seats_all g.R.ByNumber.key g.R.Row.asks (g.J.Judge.covers c.args.judge.now) (entries_of c.args.table.now) (sets_of c.args.descriptor.now) (at c.args.holders.now) c.args.rows.now
+    c.loop-place.place (items c.loop-place.seats) the_end c.loop-place.invariant

@@ -19,11 +19,11 @@ returns-in-Carried g c =
     let s : Smallest covers t (proposals (channels_of c.args.channels.now)) n = subst (λ (ys : List (Numbered Holding)). Smallest covers t (proposals ys) n) c.as_slice.ensures c.in-Carried.ensures in
     carried_by covers t (proposals (channels_of c.args.channels.now)) n s
 
-pub returns-in-Blocked : goal.returns-in-Blocked
-returns-in-Blocked g c =
+pub returns-in_default : goal.returns-in_default
+returns-in_default g c =
     let covers = g.J.Judge.covers c.args.judge.now in
     let t = standing c.args.table.now in
     let xs = channels_of c.args.channels.now in
-    let n : Notes covers t (proposals xs) t.descriptors (items c.in-Blocked.field-0) =
-    subst (λ (ys : List (Numbered Holding)). Notes covers t (proposals ys) t.descriptors (items c.in-Blocked.field-0)) c.as_slice.ensures c.in-Blocked.ensures in
-    not_carried covers t (proposals xs) (items c.in-Blocked.field-0) (some_proposed xs (λ e. c.if-count-eq0.false (c.count.ensures ∙ e))) n
+    let n : Notes covers t (proposals xs) t.descriptors (items c.in_default.field-0) =
+    subst (λ (ys : List (Numbered Holding)). Notes covers t (proposals ys) t.descriptors (items c.in_default.field-0)) c.as_slice.ensures c.in_default.ensures in
+    not_carried covers t (proposals xs) (items c.in_default.field-0) (some_proposed xs (λ e. c.if-count-eq0.false (c.count.ensures ∙ e))) n

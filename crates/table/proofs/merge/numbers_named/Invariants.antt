@@ -1,12 +1,13 @@
-use Rattle.std.proofs.Common.{length}
+use Rattle.std.proofs.Common.{ℕ, List}
 use Rattle.bounded.specs.Numbers.{holds}
+use Rattle.records.specs.Layout.{Rec}
 use Rattle.records.specs.Reads.{says}
-use Rattle.table.specs.Parts.{numbers_in}
+use Rattle.table.specs.Turns.{Lists}
 use Rattle.table.proofs.Marks.{Marked}
 use Rattle.table.proofs.merge.numbers_named.Given as goal
 
-abbrev pub invariant-loop-said : goal.invariant-loop-said
-invariant-loop-said l = Marked (holds l.named) (numbers_in l.part (says l.left)) (numbers_in l.part (says l.message))
-
-abbrev pub decreases-loop-said : goal.decreases-loop-said
-decreases-loop-said l = length (says l.left)
+abbrev pub invariant-loop-record : goal.invariant-loop-record
+invariant-loop-record g l =
+    (goal.iterator-loop-record g).can_next l.record-iterator ×
+    (goal.iterator-loop-record g).is_finite l.record-iterator ×
+    ((numbers : List Rec → List ℕ) → Lists (goal.F-post g l.number) numbers → Marked (holds l.named) (numbers (says l.record-iterator)) (numbers (says l.message)))

@@ -1,4 +1,4 @@
-use Rattle.std.proofs.Common.{◌≡◌, ℕ, ◌<◌, length, refl, arith}
+use Rattle.std.proofs.Common.{◌<◌, length, refl, arith}
 use Rattle.bounded.specs.Items.{items}
 use Rattle.channels.specs.Held.{channels_of, asked}
 use Rattle.channels.proofs.Amends.{too_many}
@@ -8,6 +8,6 @@ pub returns-then-len-gt16 : goal.returns-then-len-gt16
 returns-then-len-gt16 c =
     let many : 16 < length (items c.concerned-list.result) = omega (arith, c.len.ensures.count) in
     record {
-      held = λ e. absurd (let z : ◌≡◌ {A = ℕ} 0 1 = cc in omega arith);
-      full = λ _. (refl, λ ys after. too_many (channels_of c.args.self.now) ys (asked c.args.number c.args.proposal) (items c.concerned-list.result) c.concerned-list.ensures many after);
+      held = tt;
+      full = (refl, λ ys after. too_many (channels_of c.args.self.now) ys (asked c.args.number c.args.proposal) (items c.concerned-list.result) c.concerned-list.ensures many after);
     }

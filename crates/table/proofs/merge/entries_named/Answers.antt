@@ -1,0 +1,6 @@
+use Rattle.std.proofs.Common.{refl, rules}
+use Rattle.table.specs.Parts.{Entries, numbers_in}
+use Rattle.table.proofs.merge.entries_named.Goals as goal
+
+pub returns : goal.returns
+returns c = c.numbers_named.ensures (numbers_in Entries) (record { none = refl; each = λ s o read. search rules })
