@@ -25,7 +25,7 @@ def found(pattern, text, flags=re.M):
 def flags(text):
     for name, whole, line in functions(text):
         head = re.split(r"\n\s*(?:requires|ensures|\{)|\{\n", whole, maxsplit=1)[0]
-        if "&mut" in head and re.search(r"-> bool", head):
+        if "&mut" in head and re.search(r"-> bool\s*$", head.strip()):
             yield line, "fn " + name
 
 

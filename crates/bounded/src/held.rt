@@ -4,6 +4,7 @@ ghost use Rattle.std.specs.Prelude.{◌≡◌, ◌≤◌, length, ⊤};
 
 use std::alloc::AllocError;
 
+// A list of its own, seen through `items`: a list on the heap is against the project's rules, and a `Model` that is `Copy` would show its spare places too.
 /// A list of at most N values, held in place.
 #[derive(Copy)]
 pub struct Bounded<T, const N: usize> {

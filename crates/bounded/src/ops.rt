@@ -131,7 +131,7 @@ impl<T: Copy, const N: usize> Bounded<T, N> {
         self.len = 0;
         for x in standing.as_slice() {
             if keep(x) {
-                let _room = self.push(*x);
+                self.push(*x).unwrap();
             }
         }
     }

@@ -3,7 +3,7 @@
 use bounded::Bounded;
 use judges::Capability;
 
-/// An announced entry.
+/// An announced entry: the program's own, as all that it decides with.
 #[derive(Clone, Copy, Default)]
 pub struct AnnouncedEntry {
     pub number: u16,

@@ -10,6 +10,8 @@ use refusals::Refusal;
 use search::{Found, ROOM, search, smallest};
 use table::Table;
 
+// The generator and the tally, and what is announced and its rows, stay parameters: a struct of either would be taken apart again in each function.
+
 // How many rows a descriptor can carry at most.
 const MOST_ROWS: usize = 16;
 

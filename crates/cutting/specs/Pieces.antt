@@ -16,7 +16,7 @@ portion (Short rest) = record { kind = short_rest; octets = rest.now }
 abbrev pub left : Pieces → List ℕ
 left s = s.rest.now
 
--- the piece at the front is taken, or no octet is left
+-- the piece at the front is taken, or no octet is left, then and afterwards
 abbrev pub Takes : Pieces → Option Piece → Pieces → Type 0
-Takes s None t = left s ≡ []
+Takes s None t = (left s ≡ []) × (left t ≡ [])
 Takes s (Some p) t = Cut (left s) (portion p) (left t) × Size (portion p).kind (length (portion p).octets)

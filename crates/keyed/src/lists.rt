@@ -22,7 +22,7 @@ pub fn find<T: ByNumber + Copy>(list: &[T], number: u16) -> Option<T>
     list.iter().find(|x| x.number() == number).copied()
 }
 
-// How many stand before a number.
+// How many stand before a number: by `position`, since `partition_point` would ask callers for a list by rising number.
 fn place_of<T: ByNumber>(list: &[T], number: u16) -> usize
     ensures at { result ≡ place T.ByNumber.key list.now number }
     ensures most { result ≤ length list.now }

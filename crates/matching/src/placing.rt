@@ -22,7 +22,7 @@ pub fn place(board: &[u8], holders: &mut [u8]) -> Result<(), Block>
         holders,
         visited: 0,
     };
-    // By number, since a row is two octets of the board.
+    // By number: the board's pairs of octets read no plainer, since the row's number is needed.
     for row in 0..seats.rows() {
         seats.seat_next(row)?;
     }

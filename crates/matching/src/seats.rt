@@ -110,7 +110,7 @@ impl Seats<'_> {
         ensures { (s : ℕ) → bit result s ≡ reach (can self.now.board.now) (tall self.now.board.now) (bit group) s }
     {
         let mut sets: u16 = 0;
-        // By number, since a row is two octets of the board.
+        // By number: the board's pairs of octets read no plainer, since the row's number is needed.
         for row in 0..self.rows() {
             if has(u64::from(group), row) {
                 sets |= mask_at(self.board, row);

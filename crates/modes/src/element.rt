@@ -35,8 +35,8 @@ impl ByNumber for Element {
     }
 }
 
-/// The elements that follow at once.
 // Apart from table's `sets_after`: one function told the variant by a closure reads no plainer.
+/// The elements that follow at once.
 pub(crate) fn elements_after(message: Cursor) -> Bounded<Element, 16>
     requires { length (elements_in (says message)) ≤ 16 }
     ensures { items result ≡ rows_from 0 (elements_in (says message.entry)) }

@@ -16,6 +16,8 @@ use refusals::Refusal;
 use search::{ROOM, in_scratch, smallest};
 use table::Table;
 
+// The judge and the table stay two parameters, as of the search's own calls.
+
 // The first mode that a standing descriptor carries.
 fn first_carried<J: Judge>(
     judge: &J,

@@ -95,8 +95,7 @@ impl Record<'_> {
     fn capability(&self) -> Capability
         ensures { result ≡ record { kind = slice_index (octets self.now) 1; p = be32 (octets self.now) 4; q = be32 (octets self.now) 8 } }
     {
-        let Proposal { kind, p, q } = self.proposal();
-        Capability { kind, p, q }
+        Capability::from(self.proposal())
     }
 
     // The members of an alternative set, 15 where the count is above that.
@@ -107,7 +106,7 @@ impl Record<'_> {
         let octets = self.octets;
         let (pairs, _) = octets.as_chunks::<2>();
         for pair in pairs.iter().skip(1).take(usize::from(self.second())) {
-            let _ = list.push(u16::from_be_bytes(*pair));
+            list.push(u16::from_be_bytes(*pair)).unwrap();
         }
         list
     }

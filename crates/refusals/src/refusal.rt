@@ -45,8 +45,8 @@ pub enum Refusal {
 }
 
 impl Refusal {
-    /// The number that the host is told.
     // A method and no `From`, which is for what keeps the value: the number loses the rows of `NotAvailable`.
+    /// The number that the host is told.
     pub fn number(self) -> u8
         ensures { result ≡ number self }
     {

@@ -186,7 +186,3 @@ module _ {J : Type 0} (lawful : J → Capability → Bool) (covers : J → Capab
 
 pub law : {J : Type 0} (lawful : J → Capability → Bool) (covers : J → Capability → Proposal → Bool) → Law lawful covers
 law lawful covers j own h ns s r = good lawful covers j own (runs lawful covers j own r)
-
--- a session keeps the number that it was made with
-pub run_number : {J : Type 0} (lawful : J → Capability → Bool) (covers : J → Capability → Proposal → Bool) (j : J) (own : ℕ) {h : List Ended} {ns : List (List NoteRow)} {s : Session J} → Run lawful covers j own h ns s → s.number ≡ own
-run_number lawful covers j own r = (runs lawful covers j own r).number

@@ -35,7 +35,7 @@ pub(crate) fn cover<J: Judge, R: Row>(judge: &J, table: &Table, rows: &[R]) -> B
     let mut masks = Bounded::default();
     for row in rows {
         let proposal = row.proposal();
-        let _ = masks.push(covering(judge, table, &proposal));
+        masks.push(covering(judge, table, &proposal)).unwrap();
     }
     masks
 }

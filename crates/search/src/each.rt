@@ -23,6 +23,7 @@ pub(crate) fn search_each(table: &Table, covers: &Bounded<u64, 17>, work: &mut [
                 return Found::Carried(descriptor.number);
             }
             Err(Block { group, sets }) => {
+                // There is room for a row of each of at most 16 descriptors.
                 let _ = note.push(NoteRow {
                     descriptor: descriptor.number,
                     group,

@@ -22,7 +22,9 @@ fn resolve(table: &Table, descriptor: &Descriptor) -> Bounded<u64, 16>
 {
     let mut places = Bounded::default();
     for set in descriptor.sets.as_slice() {
-        let _ = places.push(places_of(table, set.members.as_slice()));
+        places
+            .push(places_of(table, set.members.as_slice()))
+            .unwrap();
     }
     places
 }
@@ -34,6 +36,7 @@ fn meeting_sets(cover: u64, places: &Bounded<u64, 16>) -> u16
     mask_where(places.as_slice(), |place| *place & cover != 0) as u16
 }
 
+// Table, descriptor and masks stay parameters of this and of the calls above: a struct of them would be made anew for each descriptor.
 /// Fills the board: row r can use set s where an entry that the set names is marked in the row's mask.
 pub(crate) fn fill(
     table: &Table,

@@ -10,8 +10,8 @@ pub struct NoteRow {
     pub sets: u8,
 }
 
-/// The smallest descriptor that carries the rows; or a row of a note for each standing descriptor, by rising number.
 // An enum of its own: it stands in a Result, and a Result in a Result reads worse.
+/// The smallest descriptor that carries the rows; or a row of a note for each standing descriptor, by rising number.
 #[derive(Clone, Copy)]
 pub enum Found {
     Carried(u8),

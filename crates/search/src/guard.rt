@@ -18,6 +18,7 @@ fn wipe(octets: &mut [u8])
     octets[..ROOM].fill(0);
 }
 
+// A slice with a length to ask for: of an array that is lent on from a slice, nothing is proved of what comes back.
 /// The scratch memory of one call: zeroed when it is let go.
 pub struct Guard<'a> {
     pub bytes: &'a mut [u8],

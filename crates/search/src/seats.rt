@@ -30,6 +30,8 @@ fn held_by(holders: &[u8], row: usize) -> Option<usize>
     holders.iter().position(|holder| *holder as usize == row)
 }
 
+// The judge and the table stay two parameters, as in the calls.
+
 // The first member of a set that covers a proposal: a loop, since a look-up is taken apart by let-else.
 fn first_covering<J: Judge>(
     judge: &J,
@@ -91,7 +93,7 @@ fn seats_of<J: Judge, R: Row + ByNumber>(
     let mut seats = Bounded::default();
     for (place, row) in rows.iter().enumerate() {
         let seat = seat_of(judge, table, descriptor, holders, row, place)?;
-        let _ = seats.push(seat);
+        seats.push(seat).unwrap();
     }
     Some(seats)
 }

@@ -135,8 +135,8 @@ module _ {J : Type 0} (covers : J → Capability → Proposal → Bool) where
 
 module _ {J : Type 0} (lawful : J → Capability → Bool) (covers : J → Capability → Proposal → Bool) where
   -- The checks that a set message is put to, in their order, once there is memory to work in.
-  abbrev pub message_checks : Session J → List ℕ → List Check
-  message_checks s m = set_checks (lawful s.judge) m (standing s.table) ++ narrow_checks (lawful s.judge) (covers s.judge) s.number (situation s) m
+  abbrev pub setting_checks : Session J → List ℕ → List Check
+  setting_checks s m = set_checks (lawful s.judge) m (standing s.table) ++ narrow_checks (lawful s.judge) (covers s.judge) s.number (situation s) m
 
   -- A table that a set message makes of the session's, and that carries the channels held.
   abbrev pub Becomes : Session J → List ℕ → Table → Type 0

@@ -5,7 +5,7 @@ ghost use Rattle.refusals.specs.Checks.{First, Passed};
 ghost use Rattle.search.specs.Scratch.{left_over};
 ghost use Rattle.session.specs.Calls.{set as setting, ask as asking};
 ghost use Rattle.session.specs.Rules.{ask_checks};
-ghost use Rattle.session.specs.Steps.{situation, of_set, of_ask, HandsOut, Did, Becomes, FoundFor, message_checks, asking_checks};
+ghost use Rattle.session.specs.Steps.{situation, of_set, of_ask, HandsOut, Did, Becomes, FoundFor, setting_checks, asking_checks};
 
 use crate::carrying::{are_carried, find, is_supported};
 use crate::state::Session;
@@ -21,7 +21,7 @@ pub(crate) const ROWS: usize = 16;
 impl<J: Judge> Session<J> {
     // The table after a set message, which has to carry the channels held, with octets to work in.
     fn table_after(&self, message: &[u8], work: &mut [u8; ROOM]) -> Result<Table, Refusal>
-        ensures { MatchResult result (Becomes J.Judge.lawful J.Judge.covers self.now message.now) (λ k. First (message_checks J.Judge.lawful J.Judge.covers self.now message.now) k) }
+        ensures { MatchResult result (Becomes J.Judge.lawful J.Judge.covers self.now message.now) (λ k. First (setting_checks J.Judge.lawful J.Judge.covers self.now message.now) k) }
     {
         let table = self.table.after(&self.judge, message)?;
         if !are_carried(&self.judge, &table, &self.channels, work) {
@@ -86,9 +86,10 @@ impl<J: Judge> Session<J> {
         ensures scratch { scratch.new ≡ left_over scratch.old }
     {
         let rows = note.len();
-        match in_scratch(scratch, |work| {
+        let found = in_scratch(scratch, |work| {
             self.found_for(number, proposal, rows, work)
-        })?? {
+        })??;
+        match found {
             Found::Carried(descriptor) => {
                 self.channels.hold(number, proposal).unwrap();
                 let pending = PendingOpen {

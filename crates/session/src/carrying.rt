@@ -11,8 +11,9 @@ use judges::{Judge, Proposal};
 use search::{Found, ROOM, search};
 use table::Table;
 
+// The judge and the table stay two parameters of what follows, as of the search's own calls.
+
 /// Whether an entry covers the proposal.
-// The judge and the table stay two parameters, as in the search's own calls.
 pub(crate) fn is_supported<J: Judge>(judge: &J, table: &Table, proposal: &Proposal) -> bool
     ensures { Whether result (Supported (J.Judge.covers judge.now) (standing table.now) proposal.now) }
 {

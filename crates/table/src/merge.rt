@@ -105,6 +105,7 @@ fn sets_after(message: Cursor) -> Bounded<AlternativeSet, 16>
     let mut left = message;
     let mut list = Bounded::default();
     while let Some(Said::Alternatives(members)) = left.read() {
+        // A set past the 16th is not taken.
         let _ = list.push(AlternativeSet { members });
     }
     list

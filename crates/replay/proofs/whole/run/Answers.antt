@@ -20,5 +20,5 @@ loop-piece-preserved c =
 
 pub returns : goal.returns
 returns c =
-    let h = all Step (Printed c.args.input.now) (string_bytes c.loop-piece.out) c.loop-piece.table (left c.loop-piece.piece-iterator) c.loop-piece.invariant c.in-None.ensures.steps in
+    let h = all Step (Printed c.args.input.now) (string_bytes c.loop-piece.out) c.loop-piece.table (left c.loop-piece.piece-iterator) c.loop-piece.invariant c.in-None.ensures.steps.0 in
     record { printed = h; alone = λ out k. one_text c.args.input.now _ out h k }

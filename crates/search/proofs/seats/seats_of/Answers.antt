@@ -14,6 +14,12 @@ returns-in_err-seat g c =
     absurd (has_seat g.R.ByNumber.key g.R.Row.asks (g.J.Judge.covers c.args.judge.now) (entries_of c.args.table.now) (sets_of c.args.descriptor.now) (at c.args.holders.now) c.args.rows.now
     (length (sets_of c.args.descriptor.now)) refl c.requires.placed c.loop-place.place _ (c.loop-place-test.true, sym c.index-rows-place.is) c.in_err-seat.ensures)
 
+pub unwrap-requires : goal.unwrap-requires
+unwrap-requires g c =
+    let rows = c.args.rows.now in
+    let few = placed_few (uses (usable (g.J.Judge.covers c.args.judge.now) (entries_of c.args.table.now)) (sets_of c.args.descriptor.now) (map g.R.Row.asks rows)) (length rows) c.args.descriptor.now (at c.args.holders.now) c.requires.placed in
+    c.push.ensures.variant.1 (omega (arith, few, c.loop-place.invariant.long, c.loop-place-test.true))
+
 pub loop-place-preserved : goal.loop-place-preserved
 loop-place-preserved g c =
     let rows = c.args.rows.now in

@@ -20,7 +20,7 @@ loop-x-preserved g c =
       elim c.if-keep.branch [
         | then-keep w ↦
             let room : length (items at.self) < g.row.N = omega (arith, c.as_slice-x-items.ensures.most) in
-            let put = at_ok w.push-room.result (w.push-room.ensures.variant.1 room) w.push-room.ensures.ok in
+            let put = at_ok w.push.result (w.push.ensures.variant.1 room) w.push.ensures.ok in
             rw (w.self-is, put)
             (retaining_true R c.args.keep at.keep c.keep.new.self xs (items at.self) at.x-index c.x-item.result c.loop-x-test.true c.x-item.is at.invariant.1
             (called_at g.F.FnMut c.keep.ensures w.if-keep.true))

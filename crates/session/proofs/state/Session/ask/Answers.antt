@@ -36,8 +36,8 @@ returns-in_err-in_scratch-clause-did g c =
     rw (e.1, e.2)
     (refuses g.J.Judge.lawful g.J.Judge.covers s (ask n p note w) _ _ (first_early rest (scratch_checks w) _ f) (note_kept covers (situation s) n p _ _ (scratch_before_15 w _ f) refl))
 
-pub returns-in_err-descriptor-clause-did : goal.returns-in_err-descriptor-clause-did
-returns-in_err-descriptor-clause-did g c =
+pub returns-in_err-found-clause-did : goal.returns-in_err-found-clause-did
+returns-in_err-found-clause-did g c =
     let s = c.args.self.now in
     let lawful = g.J.Judge.lawful s.judge in
     let covers = g.J.Judge.covers s.judge in
@@ -46,8 +46,8 @@ returns-in_err-descriptor-clause-did g c =
     let note = c.args.note.now in
     let w = c.args.scratch.now in
     let room : 512 ≤ length w = c.in_ok-in_scratch.ensures.answer.0.0 in
-    let f : First (asking_checks g.J.Judge.lawful g.J.Judge.covers s n p (length note)) c.in_err-descriptor.field-0.0 = search rules in
-    let e = err_from_is_err_and c.from_residual-in_err-descriptor.result c.from_residual-in_err-descriptor.ensures.1 in
+    let f : First (asking_checks g.J.Judge.lawful g.J.Judge.covers s n p (length note)) c.in_err-found.field-0.0 = search rules in
+    let e = err_from_is_err_and c.from_residual-in_err-found.result c.from_residual-in_err-found.ensures.1 in
     let early = ask_early lawful covers s.number (situation s) n p note w room _ f in
     rw (e.1, e.2)
     (refuses g.J.Judge.lawful g.J.Judge.covers s (ask n p note w) _ _ early.0 (note_kept covers (situation s) n p _ _ early.1 refl))
@@ -59,7 +59,7 @@ unwrap-requires g c =
     let n = c.args.number in
     let p = c.args.proposal in
     let found : MatchResult c.in_ok-in_scratch.field-0 (λ f. Passed (asking_checks g.J.Judge.lawful g.J.Judge.covers s n p (length c.args.note.now)) × FoundFor g.J.Judge.covers s n p f) (λ k. First (asking_checks g.J.Judge.lawful g.J.Judge.covers s n p (length c.args.note.now)) k) = search rules in
-    let h = MatchResult-at_ok _ _ (Carried c.in-Carried.descriptor) (c.in_ok-descriptor.was ∙ ap Ok c.in-Carried.is) found in
+    let h = MatchResult-at_ok _ _ (Carried c.in-Carried.descriptor) (c.in_ok-found.was ∙ ap Ok c.in-Carried.is) found in
     few_held c.hold.result _ (channels_of s.channels) h.1.0 n p c.hold.ensures.full h.1.1 (carried_few covers s.table h.1.0 c.in-Carried.descriptor h.1.2)
 
 pub returns-in-Carried : goal.returns-in-Carried
@@ -69,7 +69,7 @@ returns-in-Carried g c =
     let p = c.args.proposal in
     let d = c.in-Carried.descriptor in
     let found : MatchResult c.in_ok-in_scratch.field-0 (λ f. Passed (asking_checks g.J.Judge.lawful g.J.Judge.covers s n p (length c.args.note.now)) × FoundFor g.J.Judge.covers s n p f) (λ k. First (asking_checks g.J.Judge.lawful g.J.Judge.covers s n p (length c.args.note.now)) k) = search rules in
-    let h = MatchResult-at_ok _ _ (Carried d) (c.in_ok-descriptor.was ∙ ap Ok c.in-Carried.is) found in
+    let h = MatchResult-at_ok _ _ (Carried d) (c.in_ok-found.was ∙ ap Ok c.in-Carried.is) found in
     let fresh = subst (λ (r : Result (Unit {0}) NoRoom). OnOk r (After (channels_of s.channels) (asked n p) (channels_of c.hold.new.self))) c.unwrap.ensures c.hold.ensures.held in
     record {
       did = ask_done g.J.Judge.lawful g.J.Judge.covers s c.hold.new.self n p c.args.note.now c.args.scratch.now d c.in_ok-in_scratch.ensures.answer.0.0 h.0 h.1 fresh;

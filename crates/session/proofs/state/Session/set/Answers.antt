@@ -6,7 +6,7 @@ use Rattle.search.specs.Scratch.{scratch_checks}
 use Rattle.table.specs.Sets.{standing}
 use Rattle.session.specs.Calls.{set}
 use Rattle.session.specs.Rules.{result}
-use Rattle.session.specs.Steps.{situation, message_checks, Becomes}
+use Rattle.session.specs.Steps.{situation, setting_checks, Becomes}
 use Rattle.session.proofs.Ending.{never, refuses, set_passed}
 use Rattle.session.proofs.state.Session.set.Goals as goal
 
@@ -17,14 +17,14 @@ returns-in_err-in_scratch-clause-did g c =
     let w = c.args.scratch.now in
     let e = err_from_is_err_and c.from_residual.result c.from_residual.ensures.1 in
     rw (e.1, e.2)
-    (refuses g.J.Judge.lawful g.J.Judge.covers s (set m w) _ [] (first_early (message_checks g.J.Judge.lawful g.J.Judge.covers s m) (scratch_checks w) _ c.in_err-in_scratch.ensures.answer) refl)
+    (refuses g.J.Judge.lawful g.J.Judge.covers s (set m w) _ [] (first_early (setting_checks g.J.Judge.lawful g.J.Judge.covers s m) (scratch_checks w) _ c.in_err-in_scratch.ensures.answer) refl)
 
 pub returns-in_err-self-clause-did : goal.returns-in_err-self-clause-did
 returns-in_err-self-clause-did g c =
     let s = c.args.self.now in
     let m = c.args.message.now in
     let room : 512 ≤ length c.args.scratch.now = c.in_ok-in_scratch.ensures.answer.0.0 in
-    let f : First (message_checks g.J.Judge.lawful g.J.Judge.covers s m) c.in_err-self.field-0.0 = search rules in
+    let f : First (setting_checks g.J.Judge.lawful g.J.Judge.covers s m) c.in_err-self.field-0.0 = search rules in
     let e = err_from_is_err_and c.from_residual-in_err-self.result c.from_residual-in_err-self.ensures.1 in
     rw (e.1, e.2)
     (refuses g.J.Judge.lawful g.J.Judge.covers s (set m c.args.scratch.now) _ [] (inr (room, f)) refl)
