@@ -1,7 +1,14 @@
 -- The turns of the loop that keeps the items at which a closure answers true.
-use Rattle.std.proofs.Common.{◌≡◌, ℕ, ◌+◌, ◌<◌, ◌≤◌, Bool, true, false, cond, List, [], ◌∷◌, ◌++◌, length, get_or, drop, sym, refl, ap, subst, arith}
+use Rattle.std.proofs.Common.{◌≡◌, ℕ, ◌+◌, ◌<◌, ◌≤◌, Bool, true, false, cond, List, [], ◌∷◌, ◌++◌, length, get_or, drop, sym, refl, ap, ◌∙◌, subst, arith}
 use Rattle.std.specs.List.Retain.{IsFiltered}
-use Rattle.std.proofs.lemmas.List.{append_assoc, append-nil, drop_more, drop_all, length_push}
+use Rattle.std.proofs.lemmas.List.{append_assoc, append-nil, drop_more, drop_all, get_or-drop, length_push}
+
+module _ {X : Type 0} where
+  -- lists that are the same from i on have the same item there
+  pub same_at : (xs ys : List X) (i : ℕ) (d : X) → drop i xs ≡ drop i ys → get_or xs i d ≡ get_or ys i d
+  same_at xs ys i d e =
+      let here : i + 0 ≡ i = omega arith in
+      sym (ap (λ (k : ℕ). get_or xs k d) here) ∙ sym (get_or-drop i xs 0 d) ∙ ap (λ (zs : List X). get_or zs 0 d) e ∙ get_or-drop i ys 0 d ∙ ap (λ (k : ℕ). get_or ys k d) here
 
 module _ {X P : Type 0} (R : P → X → Bool → P → Type 0) where
   -- kept has what stays of the first i items; the answers began at p, and go on at q

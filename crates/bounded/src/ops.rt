@@ -127,13 +127,16 @@ impl<T: Copy, const N: usize> Bounded<T, N> {
         requires { F.IsAlwaysCallable keep }
         ensures { IsFiltered (CalledAt F.FnMut) keep (items self.old) (items self.new) }
     {
-        let standing = *self;
-        self.len = 0;
-        for x in standing.as_slice() {
-            if keep(x) {
-                self.push(*x).unwrap();
+        let mut kept = 0;
+        // By number and in place: a second list would cost as much as all items.
+        for i in 0..self.len {
+            let x = self.at[i];
+            if keep(&x) {
+                self.at[kept] = x;
+                kept += 1;
             }
         }
+        self.len = kept;
     }
 
     pub fn as_slice(&self) -> &[T]

@@ -3,7 +3,6 @@
 use super::line::Line;
 use super::push::push_line;
 use modes::Available;
-use refusals::Refusal;
 use std::test::Fail;
 
 #[test]
@@ -11,7 +10,7 @@ fn lines_follow_each_other(rt: HostRuntime) -> Result<(), Fail> {
     let mut out = String::new(rt.alloc());
     let set = Line::Set {
         sequence: 255,
-        answer: Err(Refusal::Undefined),
+        answer: Err(10),
     };
     push_line(&mut out, set)?;
     let available = Available {
@@ -19,7 +18,7 @@ fn lines_follow_each_other(rt: HostRuntime) -> Result<(), Fail> {
         descriptor: 12,
     };
     push_line(&mut out, Line::Mode(Ok(available)))?;
-    push_line(&mut out, Line::Mode(Err(Refusal::ModeUnavailable)))?;
+    push_line(&mut out, Line::Mode(Err(18)))?;
     push_line(&mut out, Line::Bad(9))?;
     push_line(&mut out, Line::Short)?;
     assert!(rt; out.as_str() == "set 255 10\nmode 0 0 12\nmode 18 - -\nbad 9\nshort\n");
@@ -36,7 +35,7 @@ fn opens_and_closes_follow_each_other(rt: HostRuntime) -> Result<(), Fail> {
     push_line(&mut out, open)?;
     let refused = Line::Open {
         channel: 103,
-        answer: Err(Refusal::NotAvailable { rows: 2 }),
+        answer: Err(15),
     };
     push_line(&mut out, refused)?;
     let close = Line::Close {

@@ -4,14 +4,13 @@ ghost use Rattle.std.specs.Prelude.{◌≡◌, Some};
 ghost use Rattle.lines.specs.Text.{answer_number, text};
 
 use super::line::Line;
-use refusals::Refusal;
 use std::fmt;
 
 // The number of an answer that says no more: 0 for success.
-fn number_of(answer: Result<(), Refusal>) -> u8
+fn number_of(answer: Result<(), u8>) -> u8
     ensures { result ≡ answer_number answer }
 {
-    answer.err().map_or(0, Refusal::number)
+    answer.err().unwrap_or(0)
 }
 
 impl fmt::Display for Line {
@@ -21,7 +20,7 @@ impl fmt::Display for Line {
         match *self {
             Line::Set { sequence, answer } => write!(f, "set {sequence} {}", number_of(answer)),
             Line::Mode(Ok(mode)) => write!(f, "mode 0 {} {}", mode.place, mode.descriptor),
-            Line::Mode(Err(refusal)) => write!(f, "mode {} - -", refusal.number()),
+            Line::Mode(Err(refusal)) => write!(f, "mode {refusal} - -"),
             Line::Open {
                 channel,
                 answer: Ok(descriptor),
@@ -29,7 +28,7 @@ impl fmt::Display for Line {
             Line::Open {
                 channel,
                 answer: Err(refusal),
-            } => write!(f, "open {channel} {} -", refusal.number()),
+            } => write!(f, "open {channel} {refusal} -"),
             Line::Close { channel, answer } => write!(f, "close {channel} {}", number_of(answer)),
             Line::Bad(tag) => write!(f, "bad {tag}"),
             Line::Short => write!(f, "short"),

@@ -1,11 +1,11 @@
 -- The bits of masks: of two together, one that is set, and how many are.
-use Rattle.std.proofs.Common.{◌≡◌, ℕ, zero, suc, ◌+◌, ◌/◌, ◌%◌, ◌^◌, ◌<◌, ◌≤◌, ◌&&◌, ◌||◌, min, max, Bool, true, false, cond, eqb, sym, refl, ap, ◌∙◌, subst, inl, inr, mod-lt, pow-suc, arith}
+use Rattle.std.proofs.Common.{◌≡◌, ℕ, zero, suc, ◌+◌, ◌-◌, ◌/◌, ◌%◌, ◌^◌, ◌<◌, ◌≤◌, ◌&&◌, ◌||◌, min, max, Bool, true, false, cond, not, eqb, w16, sym, refl, ap, ◌∙◌, subst, inl, inr, mod-lt, pow-suc, arith}
 use lib.Bits.{bit_and, bit_or}
 use lib.Count.{ones}
-use Rattle.std.specs.Int.{bit_at}
+use Rattle.std.specs.Int.{bit_at, bit_not}
 use Rattle.std.proofs.lemmas.Bool.{cases_eq, cases_lt, cond-false}
 use Rattle.std.proofs.lemmas.Nat.{ones-le, ones_cat, shr_split, shr_below, le-div, pow_pos, pow-add}
-use Rattle.std.proofs.lemmas.Nat.Bits.{bit_at_and, bit_at_or, bit_at-lt, bit_at_cat_low}
+use Rattle.std.proofs.lemmas.Nat.Bits.{bit_at_and, bit_at_or, bit_at_not, bit_at-lt, bit_at_cat_low}
 use Rattle.std.proofs.lemmas.Bool.Decides.{nat_tests}
 use Rattle.bounded.specs.Bit.{bit}
 use Rattle.matching.specs.Board.{count}
@@ -26,6 +26,16 @@ bit_of_and x y s = ap (λ (z : ℕ). eqb z 1) (bit_at_and x y s) ∙ both (bit_a
   where
     both : (a b : ℕ) → a < 2 → b < 2 → eqb (min a b) 1 ≡ (eqb a 1 && eqb b 1)
     both a b l k = grind (arith, nat_tests)
+
+-- what a mask has that another has not
+pub bit_of_without : (x y s : ℕ) → y < 2 ^ 16 → s < 16 → bit (bit_and x (bit_not w16 y)) s ≡ (bit x s && not (bit y s))
+unfolding bit
+bit_of_without x y s l k =
+    bit_of_and x (bit_not w16 y) s
+    ∙ ap (λ (b : Bool). eqb (bit_at x s) 1 && b) (ap (λ (z : ℕ). eqb z 1) (bit_at_not w16 y s l k) ∙ other (bit_at y s) (bit_at-lt y s))
+  where
+    other : (a : ℕ) → a < 2 → eqb (1 - a) 1 ≡ not (eqb a 1)
+    other a l = grind (arith, nat_tests)
 
 -- a mask that is not 0 has a bit
 pub some_bit : (x : ℕ) → 0 < x → (s : ℕ) × (bit x s ≡ true)

@@ -44,9 +44,8 @@ impl Seats<'_> {
         requires { row < tall self.now.board.now }
         ensures { MatchOption result ((s : ℕ) → s < length self.now.holders.now → fresh self.now row s ≡ false) (λ s. (s < length self.now.holders.now) × (fresh self.now row s ≡ true)) }
     {
-        let usable = u64::from(mask_at(self.board, row));
-        let visited = u64::from(self.visited);
-        (0..self.holders.len()).find(|set| has(usable, *set) && !has(visited, *set))
+        let fresh = mask_at(self.board, row) & !self.visited;
+        (fresh != 0).then_some(fresh.trailing_zeros() as usize)
     }
 
     // Marks a set as visited.

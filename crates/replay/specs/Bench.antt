@@ -5,6 +5,7 @@ use Rattle.lines.specs.declared.line.Line.{Line}
 use Rattle.lines.specs.declared.line.Line.TheVariants.{Set, Mode, Bad, Short}
 use Rattle.refusals.specs.declared.refusal.Refusal.{Refusal}
 use Rattle.refusals.specs.Checks.{First}
+use Rattle.refusals.specs.Number.{number}
 use Rattle.judges.specs.Tests.{standard_lawful, standard_covers}
 use Rattle.modes.specs.declared.available.Available.{Available}
 use Rattle.modes.specs.Requests.{Granted, mode_checks}
@@ -12,10 +13,10 @@ use Rattle.table.specs.declared.standing.Table.{Table}
 use Rattle.table.specs.Sets.{Sets, standing, entries_of, descriptors_of}
 use Rattle.replay.specs.Told.{Prints}
 
--- what a line has of an answer of the table: success, or the refusal
-abbrev pub refusal : Result ℕ Refusal → Result Unit Refusal
+-- what a line has of an answer of the table: success, or the number of the refusal
+abbrev pub refusal : Result ℕ Refusal → Result Unit ℕ
 refusal (Ok n) = Ok tt
-refusal (Err k) = Err k
+refusal (Err k) = Err (number k)
 
 -- the answer to a mode message on a table, in scratch memory that is long enough
 abbrev pub Asks : List ℕ → Table → Result Available Refusal → Type 0
@@ -25,7 +26,8 @@ Asks octets s r =
 
 -- the line of that answer
 abbrev pub line_of_mode : Result Available Refusal → Line
-line_of_mode r = Mode r
+line_of_mode (Ok a) = Mode (Ok a)
+line_of_mode (Err k) = Mode (Err (number k))
 
 -- a piece of a kind leads from the table s to t, and l is its line
 abbrev pub Does : Kind → List ℕ → Table → Line → Table → Type 0

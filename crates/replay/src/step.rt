@@ -9,6 +9,7 @@ use cutting::Piece;
 use judges::StandardJudge;
 use lines::Line;
 use modes::request_mode;
+use refusals::Refusal;
 use table::Table;
 
 // Performs a piece on the table, and gives its line.
@@ -19,11 +20,15 @@ pub(crate) fn perform(table: &mut Table, piece: Piece<'_>) -> Line
     match piece {
         Piece::Set(message) => Line::Set {
             sequence: message[1],
-            answer: table.set(&StandardJudge, message).map(|_| ()),
+            answer: table
+                .set(&StandardJudge, message)
+                .map(|_| ())
+                .map_err(Refusal::number),
         },
         Piece::Mode(message) => {
             let mut scratch = [0u8; 512];
-            Line::Mode(request_mode(&StandardJudge, table, message, &mut scratch))
+            let answer = request_mode(&StandardJudge, table, message, &mut scratch);
+            Line::Mode(answer.map_err(Refusal::number))
         }
         Piece::Bad(record) => Line::Bad(record[0]),
         Piece::Short(_) => Line::Short,

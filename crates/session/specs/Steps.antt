@@ -19,14 +19,13 @@ use Rattle.search.specs.declared.seat.Seating.{Seating}
 use Rattle.search.specs.Answers.{Outcome}
 use Rattle.search.specs.Scratch.{scratch_checks}
 use Rattle.search.specs.Seats.{SeatingOf}
-use Rattle.table.specs.declared.standing.Table.{Table}
-use Rattle.table.specs.Sets.{Done, set_checks, standing, entries_of, descriptors_of}
+use Rattle.table.specs.Sets.{set_checks, standing, entries_of, descriptors_of}
 use Rattle.session.specs.declared.state.Session.{Session}
 use Rattle.session.specs.declared.words.HandedBack.{HandedBack}
 use Rattle.session.specs.declared.words.Opened.{Opened}
 use Rattle.session.specs.declared.words.PendingOpen.{PendingOpen}
 use Rattle.session.specs.Calls.{Call, ask, accept, Answer, refused, done, numbered, opened, available, went}
-use Rattle.session.specs.Rules.{Situation, Carried, ask_checks, row_checks, list_checks, narrow_checks, Ends, LeavesThen, Wrote}
+use Rattle.session.specs.Rules.{Situation, ask_checks, row_checks, list_checks, narrow_checks, Ends, LeavesThen, Wrote}
 
 -- The answer that each call's result stands for.
 abbrev pub of_set : Result ℕ Refusal → Answer
@@ -137,10 +136,6 @@ module _ {J : Type 0} (lawful : J → Capability → Bool) (covers : J → Capab
   -- The checks that a set message is put to, in their order, once there is memory to work in.
   abbrev pub setting_checks : Session J → List ℕ → List Check
   setting_checks s m = set_checks (lawful s.judge) m (standing s.table) ++ narrow_checks (lawful s.judge) (covers s.judge) s.number (situation s) m
-
-  -- A table that a set message makes of the session's, and that carries the channels held.
-  abbrev pub Becomes : Session J → List ℕ → Table → Type 0
-  Becomes s m t = Done (lawful s.judge) m (standing s.table) (standing t) × Carried (covers s.judge) (standing t) (proposals (held s))
 
   -- The checks that an ask is put to before its last, with a note of so many rows.
   abbrev pub asking_checks : Session J → ℕ → Proposal → ℕ → List Check

@@ -2,10 +2,12 @@
 
 ghost use Rattle.std.specs.Prelude.{◌≡◌, [], MatchResult};
 ghost use Rattle.refusals.specs.Checks.{First, Passed};
-ghost use Rattle.search.specs.Scratch.{left_over};
+ghost use Rattle.channels.specs.Holdings.{proposals};
+ghost use Rattle.search.specs.Scratch.{left_over, scratch_checks};
+ghost use Rattle.table.specs.Sets.{standing};
 ghost use Rattle.session.specs.Calls.{set as setting, ask as asking};
-ghost use Rattle.session.specs.Rules.{ask_checks};
-ghost use Rattle.session.specs.Steps.{situation, of_set, of_ask, HandsOut, Did, Becomes, FoundFor, setting_checks, asking_checks};
+ghost use Rattle.session.specs.Rules.{ask_checks, Carried, Whether};
+ghost use Rattle.session.specs.Steps.{situation, held, of_set, of_ask, HandsOut, Did, FoundFor, asking_checks};
 
 use crate::carrying::{are_carried, find, is_supported};
 use crate::state::Session;
@@ -19,15 +21,35 @@ use table::Table;
 pub(crate) const ROWS: usize = 16;
 
 impl<J: Judge> Session<J> {
-    // The table after a set message, which has to carry the channels held, with octets to work in.
-    fn table_after(&self, message: &[u8], work: &mut [u8; ROOM]) -> Result<Table, Refusal>
-        ensures { MatchResult result (Becomes J.Judge.lawful J.Judge.covers self.now message.now) (λ k. First (setting_checks J.Judge.lawful J.Judge.covers self.now message.now) k) }
+    // Whether a table carries the channels held.
+    fn is_wide(&self, table: &Table, scratch: &mut [u8]) -> Result<bool, Refusal>
+        ensures scratch { scratch.new ≡ left_over scratch.old }
+        ensures answer { MatchResult result (λ b. Passed (scratch_checks scratch.old) × Whether b (Carried (J.Judge.covers self.now.judge) (standing table.now) (proposals (held self.now)))) (λ k. First (scratch_checks scratch.old) k) }
     {
-        let table = self.table.after(&self.judge, message)?;
-        if !are_carried(&self.judge, &table, &self.channels, work) {
-            return Err(Refusal::TooNarrow);
+        in_scratch(scratch, |work| {
+            are_carried(&self.judge, table, &self.channels, work)
+        })
+    }
+
+    // Takes a set message: the table after it has to carry the channels held. What needs no scratch comes before the call in it, so that no table is handed through that call.
+    fn take(&mut self, message: &[u8], scratch: &mut [u8]) -> Result<u8, Refusal>
+        ensures did { Did J.Judge.lawful J.Judge.covers self.old (setting message.now scratch.old) (of_set result) [] self.new }
+        ensures scratch { scratch.new ≡ left_over scratch.old }
+    {
+        match self.table.after(&self.judge, message) {
+            Ok(table) => {
+                let carried = self.is_wide(&table, scratch)?;
+                if !carried {
+                    return Err(Refusal::TooNarrow);
+                }
+                self.table = table;
+                Ok(message[1])
+            }
+            Err(refusal) => {
+                in_scratch(scratch, |_| ())?;
+                Err(refusal)
+            }
         }
-        Ok(table)
     }
 
     /// Takes a set message: answers its sequence number. The scratch has at least 512 octets.
@@ -35,8 +57,11 @@ impl<J: Judge> Session<J> {
         ensures did { Did J.Judge.lawful J.Judge.covers self.old (setting message.now scratch.old) (of_set result) [] self.new }
         ensures scratch { scratch.new ≡ left_over scratch.old }
     {
-        self.table = in_scratch(scratch, |work| self.table_after(message, work))??;
-        Ok(message[1])
+        // Before the work on the message, which `take` would do in vain.
+        if scratch.len() < ROOM {
+            return Err(Refusal::Scratch);
+        }
+        self.take(message, scratch)
     }
 
     // The checks of an ask between those of lent memory and the last.

@@ -1,7 +1,7 @@
 -- Where each item that is read of a message is put at its place, the list is the merged one.
-use Rattle.std.proofs.Common.{◌≡◌, ℕ, ◌<◌, ◌≤◌, Bool, true, false, List, [], ◌∷◌, map, length, Ok, Err, Some, None, Option, Result, sym, refl, ap, ◌∙◌, inl, inr, arith}
+use Rattle.std.proofs.Common.{◌≡◌, ℕ, ◌<◌, ◌≤◌, Bool, true, false, List, [], ◌∷◌, map, length, Ok, Err, Some, None, Option, Result, sym, refl, ap, ◌∙◌, subst, inl, inr, arith}
 use Rattle.std.specs.Option.{option_map}
-use Rattle.std.specs.Result.{MatchResult, IsErrAnd}
+use Rattle.std.specs.Result.{MatchResult, IsOk, OnOk, result_or}
 use Rattle.std.proofs.lemmas.List.{length-map}
 use Rattle.std.proofs.lemmas.Bool.{cases_lt, false≢true}
 use Rattle.bounded.specs.declared.held.Bounded.{Bounded}
@@ -20,6 +20,15 @@ use Rattle.table.specs.Turns.{Brings, Places, Merges}
 -- what a list says that has no room
 pub full : (n cap : ℕ) → (n < cap → false ≡ true) → cap ≤ n
 full n cap none = elim (cases_lt n cap) [ inl l ↦ absurd (false≢true (none l)) | inr l ↦ l ]
+
+-- what `put` answers, told again with a refusal of the caller's
+pub told_ok : (r : Result (Unit {0}) NoRoom) (k : Refusal) (s : Result (Unit {0}) Refusal) (P : Type 0) → s ≡ result_or r (Err k) → IsOk s → OnOk r P → P
+told_ok (Ok u) k s P e is h = h
+told_ok (Err n) k s P e is h = absurd (false≢true (subst IsOk e is))
+
+pub told_err : (r : Result (Unit {0}) NoRoom) (k j : Refusal) (s : Result (Unit {0}) Refusal) → s ≡ result_or r (Err k) → s ≡ Err j → (IsOk r → false ≡ true) × (j ≡ k)
+told_err (Ok u) k j s e f = absurd (false≢true (subst IsOk (sym e ∙ f) refl))
+told_err (Err n) k j s e f = (λ is. is, cc)
 
 module _ {X V : Type 0} (view : X → Numbered V) (said_in : List Rec → List (Mention V)) (reads : Said → Cursor → Option X → Type 0) (fit : List Rec → Bool)
     (rest : (r : Rec) (rs : List Rec) → fit (r ∷ rs) ≡ true → fit rs ≡ true)
@@ -49,11 +58,9 @@ module _ {X V : Type 0} (view : X → Numbered V) (said_in : List Rec → List (
     kept_rows = ap (added (said_in all)) (kept_unnamed view (said_in all) held (items before) (keeping key held (items before)) marks refl)
 
     -- so the list is merged, or is refused as too long
-    pub merges : (k : Refusal) (gives : NoRoom → Refusal → Type 0) (refuses : (n : NoRoom) (j : Refusal) → gives n j → j ≡ k) (o : Result (Bounded X N) NoRoom) (r : Result (Bounded X N) Refusal)
-        → MatchResult o (λ b. r ≡ Ok b) (λ n. IsErrAnd r (gives n))
-        → MatchResult o (λ b. Places key reads all (keeping key held (items before)) [] (items b)) (λ _. (rs : List Rec) × (xs : List X) × (N < length xs) × Places key reads all (keeping key held (items before)) rs xs)
+    pub merges : (k : Refusal) (r : Result (Bounded X N) Refusal)
+        → MatchResult r (λ b. Places key reads all (keeping key held (items before)) [] (items b))
+        (λ j. (j ≡ k) × ((rs : List Rec) × (xs : List X) × (N < length xs) × Places key reads all (keeping key held (items before)) rs xs))
         → Merges view (said_in all) before k r
-    merges k gives refuses (Ok b) r e p = rw e (ap (λ (ms : List (Mention V)). added ms (map view (items b))) (sym none) ∙ (placed _ _ _ p).1 ∙ kept_rows)
-    merges k gives refuses (Err n) (Ok c) e m = absurd e
-    merges k gives refuses (Err n) (Err j) e (rs, xs, many, p) =
-        (refuses n j e, omega (arith, many, ap length ((placed _ _ _ p).1 ∙ kept_rows), length-added (said_in rs) (map view xs), length-map xs view))
+    merges k (Ok b) p = ap (λ (ms : List (Mention V)). added ms (map view (items b))) (sym none) ∙ (placed _ _ _ p).1 ∙ kept_rows
+    merges k (Err j) (e, (rs, xs, many, p)) = (e, omega (arith, many, ap length ((placed _ _ _ p).1 ∙ kept_rows), length-added (said_in rs) (map view xs), length-map xs view))

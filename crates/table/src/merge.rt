@@ -14,7 +14,7 @@ ghost use Rattle.table.specs.Rows.{members_of, entry_row, descriptor_row};
 ghost use Rattle.table.specs.Turns.{Lists, Distinct, Brings, Places, Merges};
 
 use super::held::{AlternativeSet, Descriptor, Entry};
-use bounded::{Bounded, NoRoom, NumberSet};
+use bounded::{Bounded, NumberSet};
 use keyed::{ByNumber, kept, put};
 use records::{Cursor, Said};
 use refusals::Refusal;
@@ -59,15 +59,16 @@ pub(crate) fn descriptors_named(message: Cursor) -> Result<NumberSet, Refusal>
     })
 }
 
-// The list after a set message, by rising number: what it does not name, and each item that is read of it. An error where they are too many.
+// The list after a set message, by rising number: what it does not name, and each item that is read of it. Refused for `full` where they are too many.
 fn merged<T: ByNumber + Copy, const N: usize, F: Fn(Said, Cursor) -> Option<T>>(
     standing: &Bounded<T, N>,
     named: &NumberSet,
     message: Cursor,
     item: F,
-) -> Result<Bounded<T, N>, NoRoom>
+    full: Refusal,
+) -> Result<Bounded<T, N>, Refusal>
     requires { F.IsAlwaysCallable item }
-    ensures { let reached = Places T.ByNumber.key (F.post item) (says message.entry) (keeping T.ByNumber.key (holds named.now) (items standing.now)) in MatchResult result (λ b. reached [] (items b)) (λ _. (rs : List Rec) × (xs : List T) × (N < length xs) × reached rs xs) }
+    ensures { let reached = Places T.ByNumber.key (F.post item) (says message.entry) (keeping T.ByNumber.key (holds named.now) (items standing.now)) in MatchResult result (λ b. reached [] (items b)) (λ k. (k ≡ full) × ((rs : List Rec) × (xs : List T) × (N < length xs) × reached rs xs)) }
 {
     let mut list = kept(standing, named);
     let mut left = message;
@@ -76,7 +77,7 @@ fn merged<T: ByNumber + Copy, const N: usize, F: Fn(Said, Cursor) -> Option<T>>(
         let Some(x) = item(said, left) else {
             continue;
         };
-        put(&mut list, x)?;
+        put(&mut list, x).or(Err(full))?;
     }
     Ok(list)
 }
@@ -94,7 +95,7 @@ pub(crate) fn merged_entries(
         Said::Entry(number, capability) => Some(Entry { number, capability }),
         _ => None,
     };
-    merged(standing, named, message, entry).map_err(|_| Refusal::Entries)
+    merged(standing, named, message, entry, Refusal::Entries)
 }
 
 // The alternative sets that follow at once, 16 of them at most.
@@ -135,5 +136,11 @@ pub(crate) fn merged_descriptors(
     requires narrow_sets { narrow (says message) ≡ true }
     ensures { Merges descriptor_row (descriptors_in (says message.entry)) standing.now Refusal.Descriptors result }
 {
-    merged(standing, named, message, descriptor_in).map_err(|_| Refusal::Descriptors)
+    merged(
+        standing,
+        named,
+        message,
+        descriptor_in,
+        Refusal::Descriptors,
+    )
 }

@@ -16,4 +16,4 @@ narrow_rest r rs e = e
 pub returns : goal.returns
 returns c =
     merges descriptor_row descriptors_in _ narrow narrow_rest (λ s left o f read. search rules) (says c.args.message) c.requires.narrow_sets refl _
-    (holds c.args.named.now) c.args.standing.now c.requires.marks _ _ (λ n j gives. search rules) _ _ c.map_err.ensures.cases c.merged.ensures
+    (holds c.args.named.now) c.args.standing.now c.requires.marks _ _ c.merged.ensures

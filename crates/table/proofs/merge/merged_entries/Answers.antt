@@ -9,4 +9,4 @@ use Rattle.table.proofs.merge.merged_entries.Goals as goal
 pub returns : goal.returns
 returns c =
     merges entry_row entries_in _ (λ _. true) (λ r rs e. e) (λ s left o f read. search rules) (says c.args.message) refl refl _
-    (holds c.args.named.now) c.args.standing.now c.requires _ _ (λ n j gives. search rules) _ _ c.map_err.ensures.cases c.merged.ensures
+    (holds c.args.named.now) c.args.standing.now c.requires _ _ c.merged.ensures
