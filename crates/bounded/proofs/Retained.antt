@@ -19,9 +19,6 @@ module _ {X P : Type 0} (R : P → X → Bool → P → Type 0) where
   answered p q true x xs zs r h = (true ∷ h.0, h.1, omega (arith, h.2), (q, r, h.3), ap (λ (t : List X). x ∷ t) h.4)
   answered p q false x xs zs r h = (false ∷ h.0, h.1, omega (arith, h.2), (q, r, h.3), h.4)
 
-  pub retaining_none : (p : P) (xs : List X) → Retaining p xs [] 0 p
-  retaining_none p xs = (omega arith, λ zs h. h)
-
   module _ (p q u : P) (xs kept : List X) (i : ℕ) (x : X) (lt : i < length xs) (is : x ≡ get_or xs i x) (inv : Retaining p xs kept i q) where
     next : drop i xs ≡ x ∷ drop (i + 1) xs
     next = rw (← is) at (drop_more xs i x lt)

@@ -123,6 +123,7 @@ impl<T: Copy, const N: usize> Bounded<T, N> {
     }
 
     /// Keeps the items at which `keep` answers true, in their order.
+    // It asks that the closure can always be called: only crates of this repository call it.
     pub fn retain<F: FnMut(&T) -> bool>(&mut self, mut keep: F)
         requires { F.IsAlwaysCallable keep }
         ensures { IsFiltered (CalledAt F.FnMut) keep (items self.old) (items self.new) }

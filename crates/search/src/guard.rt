@@ -35,6 +35,7 @@ impl Drop for Guard<'_> {
 }
 
 /// Runs a call in the first octets of the scratch, and zeroes them after it.
+// It asks that the closure can always be called: only crates of this repository call it.
 pub fn in_scratch<R, F: FnOnce(&mut [u8; ROOM]) -> R>(
     scratch: &mut [u8],
     run: F,

@@ -20,7 +20,7 @@ use Rattle.records.specs.Order.{set_order}
 use Rattle.records.specs.Reads.{rows, rows_of, says, says_of, tags}
 use Rattle.records.proofs.Known.{sound, tags_said, all_sound}
 use Rattle.records.proofs.Orders.{set_from}
-use Rattle.keyed.specs.Keyed.{Numbered, mentioned, repeats}
+use Rattle.keyed.specs.Keyed.{Numbered, mentioned, repeats, rising, numbers}
 use Rattle.keyed.specs.Merge.{merging}
 use Rattle.keyed.proofs.Merged.{merging_after, after_one}
 use Rattle.table.specs.declared.held.Descriptor.{Descriptor}
@@ -28,7 +28,7 @@ use Rattle.table.specs.declared.held.Entry.{Entry}
 use Rattle.table.specs.declared.standing.Table.{Table}
 use Rattle.table.specs.Message.{entries_in, descriptors_in, all_lawful, narrow}
 use Rattle.table.specs.Rows.{entry_row, entry_rows, descriptor_row, descriptor_rows}
-use Rattle.table.specs.Sets.{Standing, Merged, Once, Leaves, Done, Keeps, entries_of, descriptors_of, standing, message, table_checks, set_checks}
+use Rattle.table.specs.Sets.{Standing, Merged, Once, Leaves, Done, entries_of, descriptors_of, standing, message, table_checks, set_checks}
 use Rattle.table.specs.Shape.{is_named, is_shaped, defined}
 use Rattle.table.proofs.Shapes.{merging_all, named_in, shaped_in, order_narrow}
 
@@ -99,39 +99,38 @@ module _ (lawful : Capability → Bool) (octets : List ℕ) (t : Table) (records
       pub many_descriptors : 16 < length after.descriptors → First (set_checks lawful octets (standing t)) Descriptors
       many_descriptors h = refused Descriptors (inr (sym lawfully, inr (once, inr (few, inl (refl, λ f. let l = f after merged in omega arith)))))
 
-      module _ (ds : Bounded Descriptor 16) (of_ds : descriptor_rows (items ds) ≡ after.descriptors)
-          (seen_es : List Entry) (seen_ds : List Descriptor) (slice_es : seen_es ≡ items es) (slice_ds : seen_ds ≡ items ds) where
+      module _ (ds : Bounded Descriptor 16) (of_ds : descriptor_rows (items ds) ≡ after.descriptors) where
         slim : Leaves (standing t) rs (λ u. length u.descriptors ≤ 16)
         slim = leaves (λ u. length u.descriptors ≤ 16) (fits descriptor_row ds _ of_ds)
 
-        -- the test of the slices is of the lists
-        of_seen : (b : Bool) → b ≡ defined (entry_rows seen_es) (descriptor_rows seen_ds) → defined after.entries after.descriptors ≡ b
-        of_seen b e = rw (← of_es, ← of_ds, ← slice_es, ← slice_ds) (sym e)
+        abbrev made : Standing
+        made = mk (entry_rows (items es)) (descriptor_rows (items ds))
 
-        pub undefined_members : false ≡ defined (entry_rows seen_es) (descriptor_rows seen_ds) → First (set_checks lawful octets (standing t)) Undefined
-        undefined_members e = refused Undefined (inr (sym lawfully, inr (once, inr (few, inr (slim, inl (refl, λ f. both_ways _ (of_seen false e) (f after merged)))))))
+        same : after ≡ made
+        same = same_standing after made (sym of_es) (sym of_ds)
 
-        module _ (whole : true ≡ defined (entry_rows seen_es) (descriptor_rows seen_ds)) where
-          abbrev made : Standing
-          made = mk (entry_rows (items es)) (descriptor_rows (items ds))
+        pub entries_rise : rising 0 (numbers (entry_rows (items es))) ≡ true
+        entries_rise = rw of_es merged.entries.order
 
-          same : after ≡ made
-          same = same_standing after made (sym of_es) (sym of_ds)
+        pub descriptors_rise : rising 0 (numbers (descriptor_rows (items ds))) ≡ true
+        descriptors_rise = rw of_ds merged.descriptors.order
 
-          pub taken : Done lawful octets (standing t) made
-          taken = record {
-            passed = passed_both (checks (message octets)) (message_checks Set octets) read.0
-                (subst (λ (m : List Rec). Passed (checks m)) said (sym lawfully, (once, (few, (slim, (leaves (λ u. defined u.entries u.descriptors ≡ true) (of_seen true whole), tt))))));
-            merged = subst (λ (m : List Rec). Merged (standing t) m made) said (subst (Merged (standing t) rs) same merged);
-          }
+        pub entries_named : list_all is_named (entry_rows (items es)) ≡ true
+        entries_named = rw of_es (merging_all is_named (entries_in rs) (entries_of t) (named_in rs sounds) t.named)
 
-          pub keeps : Keeps made
-          keeps = subst Keeps same (record {
-            entries_rise = merged.entries.order;
-            entries_few = fits entry_row es _ of_es;
-            entries_named = merging_all is_named (entries_in rs) (entries_of t) (named_in rs sounds) t.named;
-            descriptors_rise = merged.descriptors.order;
-            descriptors_few = fits descriptor_row ds _ of_ds;
-            descriptors_shaped = merging_all is_shaped (descriptors_in rs) (descriptors_of t) (shaped_in rs narrows sounds) t.shaped;
-            members_defined = of_seen true whole;
-          })
+        pub descriptors_shaped : list_all is_shaped (descriptor_rows (items ds)) ≡ true
+        descriptors_shaped = rw of_ds (merging_all is_shaped (descriptors_in rs) (descriptors_of t) (shaped_in rs narrows sounds) t.shaped)
+
+        -- the test of the lists is of the table after the message
+        of_after : (b : Bool) → defined (entry_rows (items es)) (descriptor_rows (items ds)) ≡ b → defined after.entries after.descriptors ≡ b
+        of_after b e = rw (← of_es, ← of_ds) e
+
+        pub undefined_members : defined (entry_rows (items es)) (descriptor_rows (items ds)) ≡ false → First (set_checks lawful octets (standing t)) Undefined
+        undefined_members e = refused Undefined (inr (sym lawfully, inr (once, inr (few, inr (slim, inl (refl, λ f. both_ways _ (of_after false e) (f after merged)))))))
+
+        pub taken : defined (entry_rows (items es)) (descriptor_rows (items ds)) ≡ true → Done lawful octets (standing t) made
+        taken whole = record {
+          passed = passed_both (checks (message octets)) (message_checks Set octets) read.0
+              (subst (λ (m : List Rec). Passed (checks m)) said (sym lawfully, (once, (few, (slim, (leaves (λ u. defined u.entries u.descriptors ≡ true) (of_after true whole), tt))))));
+          merged = subst (λ (m : List Rec). Merged (standing t) m made) said (subst (Merged (standing t) rs) same merged);
+        }

@@ -20,6 +20,8 @@ use records::{Cursor, Said};
 use refusals::Refusal;
 
 // The numbers that the records of a message name: refused where one is named twice.
+// Out of line, so that the set which it fills is on the stack only while it runs.
+#[inline(never)]
 fn numbers_named<F: Fn(Said) -> Option<u16>>(
     message: Cursor,
     number: F,

@@ -1,4 +1,5 @@
-use Rattle.table.proofs.Judged.{handed, narrows, many_entries, many_descriptors, undefined_members, taken, keeps}
+use Rattle.std.proofs.lemmas.Result.{MatchResult-weaker}
+use Rattle.table.proofs.Judged.{handed, narrows, many_entries, many_descriptors, entries_rise, descriptors_rise, entries_named, descriptors_shaped, undefined_members, taken}
 use Rattle.table.proofs.standing.Table.after.Goals as goal
 
 pub returns-in_err-entries : goal.returns-in_err-entries
@@ -14,18 +15,32 @@ returns-in_err-descriptors g c =
     handed _ _ _ c.from_residual-in_err-descriptors.ensures.1 c.in_err-descriptors.ensures.0
     (many_descriptors _ _ c.args.self.now c.in_ok-records.records c.in_ok-records.ensures c.if-not-are_lawful.ensures c.in_ok-entry_numbers.ensures.0 c.in_ok-descriptor_numbers.ensures.0 c.in_ok-entries.entries c.in_ok-entries.ensures c.in_err-descriptors.ensures.1)
 
-pub returns-then-not-are_defined : goal.returns-then-not-are_defined
-returns-then-not-are_defined g c =
-    undefined_members _ _ c.args.self.now c.in_ok-records.records c.in_ok-records.ensures c.if-not-are_lawful.ensures c.in_ok-entry_numbers.ensures.0 c.in_ok-descriptor_numbers.ensures.0
-    c.in_ok-entries.entries c.in_ok-entries.ensures c.in_ok-descriptors.descriptors c.in_ok-descriptors.ensures _ _ c.deref.ensures.0 c.deref-2.ensures.0 c.if-not-are_defined.ensures
+pub table_of-requires-clause-ordered : goal.table_of-requires-clause-ordered
+table_of-requires-clause-ordered g c =
+    entries_rise _ _ c.args.self.now c.in_ok-records.records c.in_ok-records.ensures c.if-not-are_lawful.ensures c.in_ok-entry_numbers.ensures.0 c.in_ok-descriptor_numbers.ensures.0
+    c.in_ok-entries.entries c.in_ok-entries.ensures c.in_ok-descriptors.descriptors c.in_ok-descriptors.ensures
 
-pub invariant_of-result : goal.invariant_of-result
-invariant_of-result g c =
-    let k = keeps _ _ c.args.self.now c.in_ok-records.records c.in_ok-records.ensures c.if-not-are_lawful.ensures c.in_ok-entry_numbers.ensures.0 c.in_ok-descriptor_numbers.ensures.0
-    c.in_ok-entries.entries c.in_ok-entries.ensures c.in_ok-descriptors.descriptors c.in_ok-descriptors.ensures _ _ c.deref.ensures.0 c.deref-2.ensures.0 c.if-not-are_defined.ensures in
-    record { ordered = k.entries_rise; arranged = k.descriptors_rise; named = k.entries_named; shaped = k.descriptors_shaped; whole = k.members_defined }
+pub table_of-requires-clause-arranged : goal.table_of-requires-clause-arranged
+table_of-requires-clause-arranged g c =
+    descriptors_rise _ _ c.args.self.now c.in_ok-records.records c.in_ok-records.ensures c.if-not-are_lawful.ensures c.in_ok-entry_numbers.ensures.0 c.in_ok-descriptor_numbers.ensures.0
+    c.in_ok-entries.entries c.in_ok-entries.ensures c.in_ok-descriptors.descriptors c.in_ok-descriptors.ensures
+
+pub table_of-requires-clause-named : goal.table_of-requires-clause-named
+table_of-requires-clause-named g c =
+    entries_named _ _ c.args.self.now c.in_ok-records.records c.in_ok-records.ensures c.if-not-are_lawful.ensures c.in_ok-entry_numbers.ensures.0 c.in_ok-descriptor_numbers.ensures.0
+    c.in_ok-entries.entries c.in_ok-entries.ensures c.in_ok-descriptors.descriptors c.in_ok-descriptors.ensures
+
+pub table_of-requires-clause-shaped : goal.table_of-requires-clause-shaped
+table_of-requires-clause-shaped g c =
+    descriptors_shaped _ _ c.args.self.now c.in_ok-records.records c.in_ok-records.ensures c.if-not-are_lawful.ensures c.in_ok-entry_numbers.ensures.0 c.in_ok-descriptor_numbers.ensures.0
+    c.in_ok-entries.entries c.in_ok-entries.ensures c.in_ok-descriptors.descriptors c.in_ok-descriptors.ensures
 
 pub returns : goal.returns
 returns g c =
-    taken _ _ c.args.self.now c.in_ok-records.records c.in_ok-records.ensures c.if-not-are_lawful.ensures c.in_ok-entry_numbers.ensures.0 c.in_ok-descriptor_numbers.ensures.0
-    c.in_ok-entries.entries c.in_ok-entries.ensures c.in_ok-descriptors.descriptors c.in_ok-descriptors.ensures _ _ c.deref.ensures.0 c.deref-2.ensures.0 c.if-not-are_defined.ensures
+    MatchResult-weaker c.table_of.result c.table_of.ensures
+    (λ t m.
+    let d = taken _ _ c.args.self.now c.in_ok-records.records c.in_ok-records.ensures c.if-not-are_lawful.ensures c.in_ok-entry_numbers.ensures.0 c.in_ok-descriptor_numbers.ensures.0
+    c.in_ok-entries.entries c.in_ok-entries.ensures c.in_ok-descriptors.descriptors c.in_ok-descriptors.ensures m.0 in
+    rw (m.1.0, m.1.1) d)
+    (λ k m. rw m.0 (undefined_members _ _ c.args.self.now c.in_ok-records.records c.in_ok-records.ensures c.if-not-are_lawful.ensures c.in_ok-entry_numbers.ensures.0 c.in_ok-descriptor_numbers.ensures.0
+    c.in_ok-entries.entries c.in_ok-entries.ensures c.in_ok-descriptors.descriptors c.in_ok-descriptors.ensures m.1))
